@@ -1,0 +1,7 @@
+pub mod Limits
+pub mod Pile
+pub mod Meaning
+pub mod Lawful
+pub mod Refusals
+pub mod Answers
+pub mod Rows
