@@ -33,13 +33,13 @@ pile-at {X} f w base p rest (suc n) k e h l =
     let regroup : p ++ ((front ++ f n) ++ rest) ≡ p ++ (front ++ (f n ++ rest)) = ap (λ z. p ++ z) (append-assoc front (f n) rest) in
     ap (λ z. take w (drop (base + w * k) z)) regroup
     ∙ ⊎-elim
-      (λ (q : k ≡ n).
-        let long : length (p ++ front) ≡ base + w * k = length-append p front ∙ ap (λ z. length p + z) (length-pile f w n each) ∙ ap (λ z. z + w * n) e ∙ ap (λ z. base + w * z) (sym q) in
-        ap (λ z. take w (drop (base + w * k) z)) (sym (append-assoc p front (f n ++ rest)))
-        ∙ ap (take w) (drop-at (p ++ front) (f n ++ rest) (base + w * k) long)
-        ∙ take-at (f n) rest w (h n (omega arith)) ∙ ap f (sym q))
-      (λ (q : k ≡ n → ⊥). pile-at f w base p (f n ++ rest) n k e each (omega arith))
-      (cases-eq k n)
+    (λ (q : k ≡ n).
+    let long : length (p ++ front) ≡ base + w * k = length-append p front ∙ ap (λ z. length p + z) (length-pile f w n each) ∙ ap (λ z. z + w * n) e ∙ ap (λ z. base + w * z) (sym q) in
+    ap (λ z. take w (drop (base + w * k) z)) (sym (append-assoc p front (f n ++ rest)))
+    ∙ ap (take w) (drop-at (p ++ front) (f n ++ rest) (base + w * k) long)
+    ∙ take-at (f n) rest w (h n (omega arith)) ∙ ap f (sym q))
+    (λ (q : k ≡ n → ⊥). pile-at f w base p (f n ++ rest) n k e each (omega arith))
+    (cases-eq k n)
 
 -- a list is the pile of its parts
 pub pile-parts : {X : Type 0} (w base : ℕ) (s : List X) (n : ℕ) → take (w * n) (drop base s) ≡ pile (λ k. take w (drop (base + w * k) s)) n
@@ -66,8 +66,8 @@ pile-item f (suc n) i k d l h =
     ⊎-elim
     (λ (q : i ≡ n). ap (λ z. getD (pile f n ++ f n) (length (pile f z) + k) d) q ∙ getD-append-add (pile f n) (f n) k d ∙ ap (λ z. getD (f z) k d) (sym q))
     (λ (q : i ≡ n → ⊥).
-      let g = pile-grows f i n (omega arith) in
-      getD-append-left (pile f n) (f n) d (length (pile f i) + k) (omega arith) ∙ pile-item f n i k d (omega arith) h)
+    let g = pile-grows f i n (omega arith) in
+    getD-append-left (pile f n) (f n) d (length (pile f i) + k) (omega arith) ∙ pile-item f n i k d (omega arith) h)
     (cases-eq i n)
 
 -- what holds of each item of each part holds of each item of the pile

@@ -65,12 +65,12 @@ module _ (first : ℕ → ℕ) (n m : ℕ) where
         let a = start-in i h in
         ⊎-elim
         (λ (q : i + 1 < n).
-          let g = ordered (i + 1) q in
-          let no : i + 1 ≡ 0 → ⊥ = λ z. omega arith in
-          let e : leastFirst first (i + 1) ≡ first i = cond-false _ _ _ (ne-eqb (i + 1) 0 no) ∙ ap first {x = i + 1 - 1} {y = i} (omega arith) in
-          let b = start-in (i + 1) q in
-          let l : leastFirst first (i + 1) ≤ first (i + 1) = g .least in
-          omega arith)
+        let g = ordered (i + 1) q in
+        let no : i + 1 ≡ 0 → ⊥ = λ z. omega arith in
+        let e : leastFirst first (i + 1) ≡ first i = cond-false _ _ _ (ne-eqb (i + 1) 0 no) ∙ ap first {x = i + 1 - 1} {y = i} (omega arith) in
+        let b = start-in (i + 1) q in
+        let l : leastFirst first (i + 1) ≤ first (i + 1) = g .least in
+        omega arith)
         (λ (q : n ≤ i + 1). let b = start-end (i + 1) q in let t = first-most i h in omega arith)
         (cases-lt (i + 1) n)
 

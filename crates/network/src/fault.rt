@@ -70,7 +70,10 @@ pub impl From<AtNode> for NetworkFault as NetworkFaultFromAtNode {
     ghost converts = { λ a r. r ≡ UnreadableRow (a .node) (a .fault) };
 
     fn from(a: AtNode) -> NetworkFault {
-        NetworkFault::UnreadableRow { node: a.node, below: a.fault }
+        NetworkFault::UnreadableRow {
+            node: a.node,
+            below: a.fault,
+        }
     }
 }
 
