@@ -1,3 +1,4 @@
 pub mod Piles
+pub mod Firsts
 pub mod Facts
 pub mod Starts

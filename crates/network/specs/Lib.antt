@@ -1,5 +1,6 @@
 pub mod Limits
 pub mod Pile
+pub mod First
 pub mod Meaning
 pub mod Lawful
 pub mod Refusals

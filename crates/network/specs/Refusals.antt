@@ -28,6 +28,9 @@ partNumber Header = 4
 partNumber NodeTable = 5
 partNumber LegTable = 6
 
+abbrev pub fault : FilePart → ℕ → ℕ → FileFault
+fault part b k = record { part = part; block = b; byte = k }
+
 abbrev pub fileRefusal : FileFault → FileRefusal
 fileRefusal f = record { number = partNumber (f .part); block = f .block; byte = f .byte }
 
