@@ -1,0 +1,5 @@
+pub mod Sounds
+pub mod Again
+pub mod Back
+pub mod Lawfuls
+pub mod Told
