@@ -83,7 +83,7 @@ module _ (w per : ℕ) (c : Chunks w per) where
       table-passes : (part : FilePart) (k : ℕ) → k < blocksFor per n → Framed w per kind base part (p ++ (tableBytes per kind base f n ++ rest)) n k
       table-passes part k h = record {
         frame = ap (λ z. frameFault z kind (base + k)) (block-at k h) ∙ table-frame k;
-        unused = ap (λ z. unusedFault z (4 + w * inBlock per n k) part (base + k)) (block-at k h) ∙ table-unused part k
+        unused = ap (λ z. unusedFault z (4 + w * inBlock per n k) part (base + k)) (block-at k h) ∙ table-unused part k;
       }
 
   module _ (kind base n : ℕ) (part : FilePart) (s : List ℕ) (by : Bytes s) (long : 512 * (base + blocksFor per n) ≤ length s) where
@@ -95,9 +95,9 @@ module _ (w per : ℕ) (c : Chunks w per) where
         let m : ℕ = inBlock per n k in
         block-is t kind (base + k) (w * m) part (block-length s (base + k) room) (block-bytes s (base + k) by room) (g .frame) (c .fits n k) (g .unused)
         ∙ ap (λ z. finished (startBytes kind (base + k) ++ z))
-          (pile-parts w 4 t m
-          ∙ pile-same (λ r. recordOf w t r) (λ r. recordAt w per base s (per * k + r)) m
-            (λ r q. ap (λ z. recordOf w (blockOf s (base + z)) r) (sym (c .quotient n k r q)) ∙ ap (λ z. recordOf w (blockOf s (base + (per * k + r) / per)) z) (sym (c .remainder n k r q))))
+        (pile-parts w 4 t m
+        ∙ pile-same (λ r. recordOf w t r) (λ r. recordAt w per base s (per * k + r)) m
+        (λ r q. ap (λ z. recordOf w (blockOf s (base + z)) r) (sym (c .quotient n k r q)) ∙ ap (λ z. recordOf w (blockOf s (base + (per * k + r) / per)) z) (sym (c .remainder n k r q))))
 
     table-writes : ((k : ℕ) → k < blocksFor per n → Framed w per kind base part s n k) → take (512 * blocksFor per n) (drop (512 * base) s) ≡ tableBytes per kind base (recordAt w per base s) n
     table-writes g =
@@ -117,5 +117,5 @@ module _ (w per : ℕ) (c : Chunks w per) where
   kept = record {
     reads = λ kind base n f p rest l each i h. table-reads kind base n f each p rest l i h;
     passes = λ kind base n part f p rest l each k h. table-passes kind base n f each p rest l part k h;
-    writes = λ kind base n part s by long g. table-writes kind base n part s by long g
+    writes = λ kind base n part s by long g. table-writes kind base n part s by long g;
   }

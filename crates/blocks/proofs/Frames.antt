@@ -104,6 +104,7 @@ unused-passes front from part b l = first-none (byteFault (finished front) from 
   where
     rest : List ℕ
     rest = bytes16 (plainCheck (body front)) ++ bytes16 (weightedCheck (body front))
+
     zero-at : (k : ℕ) → k < 508 - from → getD (finished front) (from + k) 0 ≡ 0
     zero-at k h =
         let z : k < length (replicate (508 - length front) 0) = simp length-replicate (omega arith) in
@@ -112,6 +113,7 @@ unused-passes front from part b l = first-none (byteFault (finished front) from 
         ∙ getD-append-add front (replicate (508 - length front) 0 ++ rest) k 0
         ∙ getD-append-left (replicate (508 - length front) 0) rest 0 k z
         ∙ getD-replicate (508 - length front) k 0 0 (omega arith)
+
     each : (k : ℕ) → k < 508 - from → byteFault (finished front) from part b k ≡ None
     each k h = ap (λ t. unless t (fault part b (from + k))) (eq-eqb _ _ (zero-at k h))
 
@@ -121,8 +123,8 @@ zeros s from n h each =
     let l : length (take n (drop from s)) ≡ n = length-take-le n (drop from s) (omega (arith, length-drop from s)) in
     ext-getD 0 (take n (drop from s)) (replicate n 0) (l ∙ sym (length-replicate n 0))
     (λ i q.
-      let lt : i < n = omega arith in
-      getD-take n (drop from s) i 0 lt ∙ getD-drop from s i 0 ∙ each i lt ∙ sym (getD-replicate n i 0 0 lt))
+    let lt : i < n = omega arith in
+    getD-take n (drop from s) i 0 lt ∙ getD-drop from s i 0 ∙ each i lt ∙ sym (getD-replicate n i 0 0 lt))
 
 unused-zero : (s : List ℕ) (from : ℕ) (part : FilePart) (b : ℕ) → unusedFault s from part b ≡ None → (k : ℕ) → k < 508 - from → getD s (from + k) 0 ≡ 0
 unfolding unusedFault
@@ -158,5 +160,5 @@ block-is s kind b c part l by ff h u =
     let lo : take 2 (drop 508 s) ≡ bytes16 (plainCheck (body front)) = back16 s 508 by (omega arith) ∙ ap bytes16 (f .plain-is ∙ plain-front s ∙ ap plainCheck e) in
     let hi : take 2 (drop 510 s) ≡ bytes16 (weightedCheck (body front)) = back16 s 510 by (omega arith) ∙ ap bytes16 (f .weighted-is ∙ weighted-front s ∙ ap weightedCheck e) in
     let all : drop 508 s ≡ take 2 (drop 508 s) ++ take 2 (drop 510 s) =
-      sym (take-all 4 (drop 508 s) (omega (arith, length-drop 508 s))) ∙ take-add 2 2 (drop 508 s) ∙ ap (λ t. take 2 (drop 508 s) ++ take 2 t) (drop-drop 2 508 s) in
+    sym (take-all 4 (drop 508 s) (omega (arith, length-drop 508 s))) ∙ take-add 2 2 (drop 508 s) ∙ ap (λ t. take 2 (drop 508 s) ++ take 2 t) (drop-drop 2 508 s) in
     sym (take-append-drop 508 s) ∙ ap (λ t. t ++ drop 508 s) e ∙ ap (λ t. body front ++ t) (all ∙ ap (λ t. t ++ take 2 (drop 510 s)) lo ∙ ap (λ t. bytes16 (plainCheck (body front)) ++ t) hi)

@@ -48,8 +48,8 @@ over-over d at s t n e h =
     let t1 : take n (over d at s) ≡ P = ap (take n) w ∙ take-at P D n a in
     let k : at + length s + length t ≡ at + length (s ++ t) = omega (arith, length-append s t) in
     let t2 : drop (n + length t) (over d at s) ≡ drop (at + length (s ++ t)) d =
-      ap (drop (n + length t)) w ∙ sym (drop-drop (length t) n (P ++ D)) ∙ ap (drop (length t)) (drop-at P D n a)
-      ∙ drop-drop (length t) (at + length s) d ∙ ap (λ (j : ℕ). drop j d) k in
+    ap (drop (n + length t)) w ∙ sym (drop-drop (length t) n (P ++ D)) ∙ ap (drop (length t)) (drop-at P D n a)
+    ∙ drop-drop (length t) (at + length s) d ∙ ap (λ (j : ℕ). drop j d) k in
     let X : List ℕ = drop (at + length (s ++ t)) d in
     ap (λ (z : List ℕ). z ++ (t ++ drop (n + length t) (over d at s))) t1 ∙ ap (λ (z : List ℕ). P ++ (t ++ z)) t2
     ∙ append-assoc (take at d) s (t ++ X) ∙ ap (λ (z : List ℕ). take at d ++ z) (sym (append-assoc s t X))

@@ -41,6 +41,6 @@ unfolding blockOf
 image-split s a b l =
     let n : 512 + 512 * a ≡ 512 * (1 + a) = omega arith in
     let last : drop (512 * a) (drop 512 s) ≡ take (512 * b) (drop (512 * (1 + a)) s) =
-      drop-drop (512 * a) 512 s ∙ ap (λ z. drop z s) n ∙ sym (take-all (512 * b) (drop (512 * (1 + a)) s) (omega (arith, length-drop (512 * (1 + a)) s))) in
+    drop-drop (512 * a) 512 s ∙ ap (λ z. drop z s) n ∙ sym (take-all (512 * b) (drop (512 * (1 + a)) s) (omega (arith, length-drop (512 * (1 + a)) s))) in
     sym (take-append-drop 512 s)
     ∙ ap (λ t. take 512 s ++ t) (sym (take-append-drop (512 * a) (drop 512 s)) ∙ ap (λ t. take (512 * a) (drop 512 s) ++ t) last)

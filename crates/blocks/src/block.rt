@@ -27,16 +27,32 @@ pub fn frame(block: &[u8], kind: u8, number: u16) -> Result<(), FileFault>
 {
     let check = check_of(block);
     if le16(block, 508) != check.plain || le16(block, 510) != check.weighted {
-        return Err(FileFault { part: FilePart::Check, block: number, byte: 508 });
+        return Err(FileFault {
+            part: FilePart::Check,
+            block: number,
+            byte: 508,
+        });
     }
     if block[0] != kind {
-        return Err(FileFault { part: FilePart::Frame, block: number, byte: 0 });
+        return Err(FileFault {
+            part: FilePart::Frame,
+            block: number,
+            byte: 0,
+        });
     }
     if block[1] != 0 {
-        return Err(FileFault { part: FilePart::Frame, block: number, byte: 1 });
+        return Err(FileFault {
+            part: FilePart::Frame,
+            block: number,
+            byte: 1,
+        });
     }
     if le16(block, 2) != number {
-        return Err(FileFault { part: FilePart::Frame, block: number, byte: 2 });
+        return Err(FileFault {
+            part: FilePart::Frame,
+            block: number,
+            byte: 2,
+        });
     }
     Ok(())
 }
@@ -49,7 +65,11 @@ pub fn unused(block: &[u8], from: usize, part: FilePart, number: u16) -> Result<
 {
     for k in 0..508 - from {
         if block[from + k] != 0 {
-            return Err(FileFault { part, block: number, byte: (from + k) as u16 });
+            return Err(FileFault {
+                part,
+                block: number,
+                byte: (from + k) as u16,
+            });
         }
     }
     Ok(())

@@ -25,7 +25,10 @@ pub fn le32(s: &[u8], at: usize) -> u32
     requires { ⌜ at + 3 < length (now s) ⌝ }
     ensures { λ r. ⌜ r ≡ u32At (now (s .entry)) at ⌝ }
 {
-    s[at] as u32 + 256 * (s[at + 1] as u32) + 65536 * (s[at + 2] as u32) + 16777216 * (s[at + 3] as u32)
+    s[at] as u32
+        + 256 * (s[at + 1] as u32)
+        + 65536 * (s[at + 2] as u32)
+        + 16777216 * (s[at + 3] as u32)
 }
 
 pub fn signed32(s: &[u8], at: usize) -> i32

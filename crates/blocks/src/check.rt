@@ -25,5 +25,8 @@ pub fn check_of(block: &[u8]) -> Check
         plain += byte;
         weighted += (i as u32 + 1) * byte;
     }
-    Check { plain: (plain % MODULUS) as u16, weighted: (weighted % MODULUS) as u16 }
+    Check {
+        plain: (plain % MODULUS) as u16,
+        weighted: (weighted % MODULUS) as u16,
+    }
 }

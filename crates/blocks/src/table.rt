@@ -2,8 +2,28 @@
 ghost use mathlib.Core.Path.{_≡_};
 ghost use Prim.Native.Nat.{ℕ, _+_, _*_, _/_, _%_, _<_, _≤_};
 ghost use lib.ListN.{length};
-ghost use Rattle.blocks.specs.Tables.{TablesStand, recordOf, recordAt};
+ghost use Rattle.blocks.specs.Tables.{TablesStand, blocksFor, inBlock, recordOf, recordAt};
 use crate::block::block_of;
+
+/// How many records a block holds, and how many bytes each takes.
+pub const PER_BLOCK: usize = 42;
+
+pub const WIDTH: usize = 12;
+
+/// How many blocks `n` records take.
+pub fn blocks_for(n: usize) -> usize
+    ensures { λ r. ⌜ r ≡ blocksFor 42 n ⌝ }
+{
+    n.div_ceil(PER_BLOCK)
+}
+
+/// How many of `n` records stand in block `k` of their table.
+pub fn in_block(n: usize, k: usize) -> usize
+    requires { ⌜ 42 * k ≤ n ⌝ }
+    ensures { λ r. ⌜ r ≡ inBlock 42 n k ⌝ }
+{
+    (n - PER_BLOCK * k).min(PER_BLOCK)
+}
 
 /// Record `r` of a block of records of `width` bytes.
 pub fn record_of(block: &[u8], width: usize, r: usize) -> &[u8]

@@ -60,8 +60,8 @@ leg-record-is : (t : List ℕ) → Bytes t → length t ≡ 12 → u16At t 2 ≡
 leg-record-is t b l z =
     sym (take-all 12 t (omega arith)) ∙ take-add 2 10 t
     ∙ ap (λ y. take 2 t ++ y)
-      (take-add 2 8 (drop 2 t) ∙ ap (λ y. take 2 (drop 2 t) ++ y)
-        (ap (take 8) (drop-drop 2 2 t) ∙ take-add 4 4 (drop 4 t) ∙ ap (λ y. take 4 (drop 4 t) ++ take 4 y) (drop-drop 4 4 t)))
+    (take-add 2 8 (drop 2 t) ∙ ap (λ y. take 2 (drop 2 t) ++ y)
+    (ap (take 8) (drop-drop 2 2 t) ∙ take-add 4 4 (drop 4 t) ∙ ap (λ y. take 4 (drop 4 t) ++ take 4 y) (drop-drop 4 4 t)))
     ∙ ap (λ y. y ++ (take 2 (drop 2 t) ++ (take 4 (drop 4 t) ++ take 4 (drop 8 t)))) (back16 t 0 b (omega arith))
     ∙ ap (λ y. bytes16 (u16At t 0) ++ (y ++ (take 4 (drop 4 t) ++ take 4 (drop 8 t)))) (back16 t 2 b (omega arith) ∙ ap bytes16 z)
     ∙ ap (λ y. bytes16 (u16At t 0) ++ (bytes16 0 ++ (y ++ take 4 (drop 8 t)))) (back32 t 4 b (omega arith))
@@ -71,8 +71,8 @@ header-is : (t : List ℕ) → Bytes t → length t ≡ 512 → take 10 (drop 4 
 header-is t b l =
     take-add 2 8 (drop 4 t)
     ∙ ap (λ y. take 2 (drop 4 t) ++ y)
-      (ap (take 8) (drop-drop 2 4 t) ∙ take-add 2 6 (drop 6 t) ∙ ap (λ y. take 2 (drop 6 t) ++ y)
-        (ap (take 6) (drop-drop 2 6 t) ∙ take-add 2 4 (drop 8 t) ∙ ap (λ y. take 2 (drop 8 t) ++ take 4 y) (drop-drop 2 8 t)))
+    (ap (take 8) (drop-drop 2 4 t) ∙ take-add 2 6 (drop 6 t) ∙ ap (λ y. take 2 (drop 6 t) ++ y)
+    (ap (take 6) (drop-drop 2 6 t) ∙ take-add 2 4 (drop 8 t) ∙ ap (λ y. take 2 (drop 8 t) ++ take 4 y) (drop-drop 2 8 t)))
     ∙ ap (λ y. y ++ (take 2 (drop 6 t) ++ (take 2 (drop 8 t) ++ take 4 (drop 10 t)))) (back16 t 4 b (omega arith))
     ∙ ap (λ y. bytes16 (u16At t 4) ++ (y ++ (take 2 (drop 8 t) ++ take 4 (drop 10 t)))) (back16 t 6 b (omega arith))
     ∙ ap (λ y. bytes16 (u16At t 4) ++ (bytes16 (u16At t 6) ++ (y ++ take 4 (drop 10 t)))) (back16 t 8 b (omega arith))

@@ -35,7 +35,7 @@ use Rattle.image_format.specs.Layout.{nodesIn, depotIn, sinkIn, legsIn, nodeRe
 use Rattle.image_format.specs.Judge.{judge, headerFault, nodeFault, nodeFaultAt, nodeBlockFault, blockCount, legFault, legFaultIn, legBlockFault, legBlockFaultAt}
 use Rattle.image_format.specs.Decode.{blocksOver, spanFault, windowIn, legIn, legAt, rowBy, rowSpan, imageNet}
 use Rattle.image_format.specs.Encode.{headerBytes, nodeBytes, legBytes, legCount, firstOfNode, nodeBytesAt, legBytesAt, headerBlock, nodeTable, legTable, encoded, encodedSize}
-use Rattle.image_format.specs.RoundTrip.{Readable, Holdable, Same, ReadBack, WrittenIsRead}
+use Rattle.image_format.specs.RoundTrip.{Readable, Holdable, ReadBack, WrittenIsRead}
 
 -- the header
 record HeaderIs (h : List ℕ) (n depot sink m : ℕ) : Type 0 where
@@ -226,18 +226,18 @@ module _ (N : Net) (v : Lawful N) (holds : Holdable N) where
       let vb : N .window i .closes ≤ mostTime = x .ends in
       let g = first-grows N i h in
       let bounds : (leastFirst (firstLeg (encoded N)) i ≤ firstOfNode N i) × (firstOfNode N i ≤ mostFirst (legCount N) i) = ⊎-elim
-        (λ (q : i ≡ 0).
-          let e = eq-eqb i 0 q in
-          let l : leastFirst (firstLeg (encoded N)) i ≡ 0 = cond-true _ _ _ e in
-          let y : firstOfNode N i ≡ 0 = ap (firstOfNode N) q in
-          (omega arith, omega arith))
-        (λ (q : i ≡ 0 → ⊥).
-          let e = ne-eqb i 0 q in
-          let l : leastFirst (firstLeg (encoded N)) i ≡ firstOfNode N (i - 1) = cond-false _ _ _ e ∙ fields N (i - 1) (omega arith) .first-is in
-          let y : mostFirst (legCount N) i ≡ legCount N = cond-false _ _ _ e in
-          let z : firstOfNode N i ≡ firstOfNode N (i - 1) + length (legsAt N (i - 1)) = ap (firstOfNode N) {x = i} {y = i - 1 + 1} (omega arith) ∙ first-next N (i - 1) in
-          (omega arith, omega arith))
-        (cases-eq i 0) in
+      (λ (q : i ≡ 0).
+      let e = eq-eqb i 0 q in
+      let l : leastFirst (firstLeg (encoded N)) i ≡ 0 = cond-true _ _ _ e in
+      let y : firstOfNode N i ≡ 0 = ap (firstOfNode N) q in
+      (omega arith, omega arith))
+      (λ (q : i ≡ 0 → ⊥).
+      let e = ne-eqb i 0 q in
+      let l : leastFirst (firstLeg (encoded N)) i ≡ firstOfNode N (i - 1) = cond-false _ _ _ e ∙ fields N (i - 1) (omega arith) .first-is in
+      let y : mostFirst (legCount N) i ≡ legCount N = cond-false _ _ _ e in
+      let z : firstOfNode N i ≡ firstOfNode N (i - 1) + length (legsAt N (i - 1)) = ap (firstOfNode N) {x = i} {y = i - 1 + 1} (omega arith) ∙ first-next N (i - 1) in
+      (omega arith, omega arith))
+      (cases-eq i 0) in
       node-ok t b byte low high (omega arith) (omega arith) (omega (arith, bounds .0)) (omega (arith, bounds .1))
 
   node-block-passes : (k : ℕ) → k < blocksFor 42 (N .n) → nodeBlockFault (encoded N) (N .n) (legCount N) k ≡ None
@@ -273,27 +273,27 @@ module _ (N : Net) (v : Lawful N) (holds : Holdable N) where
       ap (λ z. legBlockFault (blockOf s (1 + blocksFor 42 z + k)) z (1 + blocksFor 42 z + k) (inBlock 42 (legsIn s) k)) (nodes-in N)
       ∙ ap (λ z. legBlockFault (blockOf s (a + k)) (N .n) (a + k) (inBlock 42 z k)) (legs-in N)
       ∙ leg-block-ok (blockOf s (a + k)) (N .n) (a + k) c (g .frame)
-        (first-none (legFaultIn (blockOf s (a + k)) (N .n) (a + k)) c
-          (λ r q.
-            let j : ℕ = 42 * k + r in
-            let b : j < legCount N = chunks12 .below (legCount N) k r q in
-            let e : recordOf 12 (blockOf s (a + k)) r ≡ legBytesAt N j =
-              ap (λ z. recordOf 12 (blockOf s (a + z)) r) (sym (chunks12 .quotient (legCount N) k r q))
-              ∙ ap (λ z. recordOf 12 (blockOf s (a + j / 42)) z) (sym (chunks12 .remainder (legCount N) k r q))
-              ∙ ap (λ z. recordAt 12 42 z s j) (sym (base-in N)) ∙ leg-at N j b in
-            ap (λ z. legFault z (N .n) (a + k) (4 + 12 * r)) e
-            ∙ leg-passes (getD (allLegs N) j noLeg) (N .n) (N .reach) (a + k) (4 + 12 * r) (lawful-each j b) (holds-each j b)))
-        (g .unused)
+      (first-none (legFaultIn (blockOf s (a + k)) (N .n) (a + k)) c
+      (λ r q.
+      let j : ℕ = 42 * k + r in
+      let b : j < legCount N = chunks12 .below (legCount N) k r q in
+      let e : recordOf 12 (blockOf s (a + k)) r ≡ legBytesAt N j =
+      ap (λ z. recordOf 12 (blockOf s (a + z)) r) (sym (chunks12 .quotient (legCount N) k r q))
+      ∙ ap (λ z. recordOf 12 (blockOf s (a + j / 42)) z) (sym (chunks12 .remainder (legCount N) k r q))
+      ∙ ap (λ z. recordAt 12 42 z s j) (sym (base-in N)) ∙ leg-at N j b in
+      ap (λ z. legFault z (N .n) (a + k) (4 + 12 * r)) e
+      ∙ leg-passes (getD (allLegs N) j noLeg) (N .n) (N .reach) (a + k) (4 + 12 * r) (lawful-each j b) (holds-each j b)))
+      (g .unused)
 
   span-passes : (from to : ℕ) → to ≤ legCount N → spanFault (encoded N) from to ≡ None
   unfolding spanFault
   span-passes from to h =
       first-none (λ k. legBlockFaultAt (encoded N) (from / 42 + k)) (blocksOver from to)
       (λ k q.
-        ⊎-elim
-        (λ (l : from < to). let e : blocksOver from to ≡ blocksFor 42 to - from / 42 = cond-true _ _ _ (lt-ltb _ _ l) in leg-block-passes (from / 42 + k) (omega arith))
-        (λ (l : to ≤ from). let e : blocksOver from to ≡ 0 = cond-false _ _ _ (le-ltb _ _ l) in absurd (omega arith))
-        (cases-lt from to))
+      ⊎-elim
+      (λ (l : from < to). let e : blocksOver from to ≡ blocksFor 42 to - from / 42 = cond-true _ _ _ (lt-ltb _ _ l) in leg-block-passes (from / 42 + k) (omega arith))
+      (λ (l : to ≤ from). let e : blocksOver from to ≡ 0 = cond-false _ _ _ (le-ltb _ _ l) in absurd (omega arith))
+      (cases-lt from to))
 
   legs-same : (i : ℕ) → i < N .n → legsFrom (legAt (encoded N)) (firstOfNode N i) (firstOfNode N (i + 1)) ≡ legsAt N i
   legs-same i h =
@@ -304,11 +304,11 @@ module _ (N : Net) (v : Lawful N) (holds : Holdable N) where
       let l : length (map (legAt (encoded N)) (counting a (length (legsAt N i)))) ≡ length (legsAt N i) = length-map-counting (legAt (encoded N)) a (length (legsAt N i)) in
       ap (λ z. map (legAt (encoded N)) (counting a z)) c
       ∙ ext-getD noLeg (map (legAt (encoded N)) (counting a (length (legsAt N i)))) (legsAt N i) l
-        (λ k q.
-          let b : k < length (legsAt N i) = omega arith in
-          getD-map-counting (legAt (encoded N)) a (length (legsAt N i)) k (a + k) noLeg b refl
-          ∙ ap legIn (leg-at N (a + k) (omega arith)) ∙ leg-read (getD (allLegs N) (a + k) noLeg) (holds-each (a + k) (omega arith))
-          ∙ pile-item (legsAt N) (N .n) i k noLeg h b)
+      (λ k q.
+      let b : k < length (legsAt N i) = omega arith in
+      getD-map-counting (legAt (encoded N)) a (length (legsAt N i)) k (a + k) noLeg b refl
+      ∙ ap legIn (leg-at N (a + k) (omega arith)) ∙ leg-read (getD (allLegs N) (a + k) noLeg) (holds-each (a + k) (omega arith))
+      ∙ pile-item (legsAt N) (N .n) i k noLeg h b)
 
   row-same : (i : ℕ) → i < N .n → faultIn (N .row i) ≡ None → imageNet (encoded N) .row i ≡ N .row i
   row-same i h e =
@@ -333,6 +333,6 @@ written-is-read N v r holds = record {
     depot-same = ap (λ z. u16At z 6) (header-at N) ∙ header N .depot-is;
     sink-same = ap (λ z. u16At z 8) (header-at N) ∙ header N .sink-is;
     window-same = λ i h. window-is (nodeRecord (encoded N) i) (N .window i .opens) (N .window i .closes) (firstOfNode N i) (fields N i h);
-    row-same = λ i h. row-same N v holds i h (r i h)
+    row-same = λ i h. row-same N v holds i h (r i h);
   };
 }

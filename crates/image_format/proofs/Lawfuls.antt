@@ -11,12 +11,11 @@ use Rattle.network.specs.Lawful.{Lawful, LawfulLeg}
 use Rattle.network.specs.Rows.{legsFrom}
 use Rattle.network.specs.declared.fault.FileFault.{FileFault}
 use Rattle.network.specs.declared.leg.Leg.{Leg}
-use Rattle.network.proofs.Firsts.{none-from}
 use Rattle.network.proofs.Starts.{start-most, below-most, length-from, item-from}
 use Rattle.image_format.specs.Layout.{nodesIn, legsIn, firstLeg, start, mostCost}
-use Rattle.image_format.specs.Judge.{judge, Sound}
+use Rattle.image_format.specs.Judge.{Sound}
 use Rattle.image_format.specs.Decode.{spanFault, legAt, rowBy, imageNet}
-use Rattle.image_format.proofs.Sounds.{Facts, facts, node-facts, ordered, leg-facts, span-sound}
+use Rattle.image_format.proofs.Sounds.{Facts, sound-facts, node-facts, ordered, leg-facts, span-sound}
 
 row-length : (o : Option FileFault) (ls : List Leg) → length (legsOf (rowBy o ls)) ≤ length ls
 row-length None ls = omega arith
@@ -45,7 +44,7 @@ rows-within s i =
 
 pub image-lawful : (s : List ℕ) → Sound s → Lawful (imageNet s)
 image-lawful s e =
-    let f : Facts s = facts s (none-from (judge s) e) in
+    let f : Facts s = sound-facts s e in
     record {
       some = f .some;
       many = f .many;
@@ -53,9 +52,9 @@ image-lawful s e =
       sink-in = f .sink-in;
       near = omega arith;
       few =
-        let a = below-most (firstLeg s) (nodesIn s) (legsIn s) (f .some) (ordered s f) (legsAt (imageNet s)) (λ i h. rows-within s i) (nodesIn s) (omega arith) in
-        let b = start-most (firstLeg s) (nodesIn s) (legsIn s) (f .some) (ordered s f) (nodesIn s) in
-        omega (arith, f .few);
+          let a = below-most (firstLeg s) (nodesIn s) (legsIn s) (f .some) (ordered s f) (legsAt (imageNet s)) (λ i h. rows-within s i) (nodesIn s) (omega arith) in
+          let b = start-most (firstLeg s) (nodesIn s) (legsIn s) (f .some) (ordered s f) (nodesIn s) in
+          omega (arith, f .few);
       windows = λ i h. let g = node-facts s f i h in record { in-order = g .in-order; ends = g .ends };
-      rows = row-lawful s f
+      rows = row-lawful s f;
     }

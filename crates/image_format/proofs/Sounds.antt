@@ -12,13 +12,13 @@ use Rattle.network.specs.First.{firstOf}
 use Rattle.network.specs.Limits.{mostNodes, mostLegs, mostTime}
 use Rattle.network.specs.Rows.{leastFirst, mostFirst, InOrder}
 use Rattle.network.specs.declared.fault.FilePart.the-variants.{Header, NodeTable, LegTable}
-use Rattle.network.proofs.Firsts.{front, back, passes, first-each}
+use Rattle.network.proofs.Firsts.{front, back, passes, first-each, none-from}
 use Rattle.blocks.specs.Numbers.{u16At, u32At, i32At}
 use Rattle.blocks.specs.Blocks.{blockOf, frameFault, unusedFault}
 use Rattle.blocks.specs.Tables.{blocksFor, inBlock, recordOf, recordAt, Framed}
 use Rattle.blocks.proofs.Chunked.{chunks12}
 use Rattle.image_format.specs.Layout.{nodesIn, depotIn, sinkIn, legsIn, nodeRecord, firstLeg, legBase, legRecord, mostCost}
-use Rattle.image_format.specs.Judge.{judge, headerFault, nodeFault, nodeFaultAt, nodeBlockFault, blockCount, legFault, legFaultIn, legBlockFault, legBlockFaultAt}
+use Rattle.image_format.specs.Judge.{judge, Sound, headerFault, nodeFault, nodeFaultAt, nodeBlockFault, blockCount, legFault, legFaultIn, legBlockFault, legBlockFaultAt}
 use Rattle.image_format.specs.Decode.{blocksOver, spanFault}
 
 pub record Facts (s : List ℕ) : Type 0 where
@@ -66,8 +66,11 @@ facts s e =
       few = h .few;
       header-frame = front _ _ e1;
       header-unused = h .unused;
-      blocks = first-each (nodeBlockFault s (nodesIn s) (legsIn s)) (blocksFor 42 (nodesIn s)) (back _ _ e3)
+      blocks = first-each (nodeBlockFault s (nodesIn s) (legsIn s)) (blocksFor 42 (nodesIn s)) (back _ _ e3);
     }
+
+pub sound-facts : (s : List ℕ) → Sound s → Facts s
+sound-facts s e = facts s (none-from (judge s) e)
 
 -- a node block that passes
 pub record BlockFacts (s : List ℕ) (n m k : ℕ) : Type 0 where
@@ -141,7 +144,7 @@ leg-facts-of t n b byte e =
       zero-is = eqb-true _ _ (passes _ _ (front _ _ e1));
       lasts = leb-true _ _ (d .0);
       ends = leb-true _ _ (d .1);
-      cost-in = leb-true _ _ (passes _ _ (back _ _ e2))
+      cost-in = leb-true _ _ (passes _ _ (back _ _ e2));
     }
 
 -- the blocks of a span that passes

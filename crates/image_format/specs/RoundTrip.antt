@@ -5,7 +5,7 @@ use Prim.Native.Nat.{ℕ, _≤_, _<_}
 use lib.IntN.{natAbs}
 use lib.ListN.{length, getD}
 use Rattle.std.specs.declared.option.Option.the-variants.{None}
-use Rattle.network.specs.Meaning.{Net, faultIn, legsAt, noLeg}
+use Rattle.network.specs.Meaning.{Net, Same, faultIn, legsAt, noLeg}
 use Rattle.network.specs.Lawful.{Lawful}
 use Rattle.blocks.specs.Numbers.{Bytes}
 use Rattle.image_format.specs.Layout.{mostCost}
@@ -20,14 +20,6 @@ Readable N = (i : ℕ) → i < N .n → faultIn (N .row i) ≡ None
 -- an image can hold every cost
 abbrev pub Holdable : Net → Type 0
 Holdable N = (i : ℕ) → i < N .n → (k : ℕ) → k < length (legsAt N i) → natAbs (getD (legsAt N i) k noLeg .cost) ≤ mostCost
-
--- two networks that differ in their reach at most
-pub record Same (M N : Net) : Type 0 where
-  pub nodes-same : M .n ≡ N .n
-  pub depot-same : M .depot ≡ N .depot
-  pub sink-same : M .sink ≡ N .sink
-  pub window-same : (i : ℕ) → i < N .n → M .window i ≡ N .window i
-  pub row-same : (i : ℕ) → i < N .n → M .row i ≡ N .row i
 
 -- the image of N opens, and means the same network
 pub record ReadBack (N : Net) : Type 0 where

@@ -1,9 +1,11 @@
 -- What a network means.
 use mathlib.Core.List.{List, [], _∷_}
-use Prim.Native.Nat.{ℕ}
+use mathlib.Core.Path.{_≡_}
+use Prim.Native.Nat.{ℕ, _<_}
 use lib.IntN.{pos}
 use Rattle.std.specs.declared.option.Option.{Option}
 use Rattle.std.specs.declared.option.Option.the-variants.{Some, None}
+use Rattle.network.specs.Limits.{mostTime}
 use Rattle.network.specs.Pile.{pile}
 use Rattle.network.specs.declared.fault.FileFault.{FileFault}
 use Rattle.network.specs.declared.leg.Leg.{Leg}
@@ -43,6 +45,18 @@ legsBelow N i = pile (legsAt N) i
 
 abbrev pub allLegs : Net → List Leg
 allLegs N = legsBelow N (N .n)
+
+-- one node that is always open, without legs: what a source holds before it is opened
+abbrev pub loneNode : Net
+loneNode = record { n = 1; depot = 0; sink = 0; window = λ i. record { opens = 0; closes = mostTime }; row = λ i. Legs []; reach = 0 }
+
+-- two networks that differ in their reach at most
+pub record Same (M N : Net) : Type 0 where
+  pub nodes-same : M .n ≡ N .n
+  pub depot-same : M .depot ≡ N .depot
+  pub sink-same : M .sink ≡ N .sink
+  pub window-same : (i : ℕ) → i < N .n → M .window i ≡ N .window i
+  pub row-same : (i : ℕ) → i < N .n → M .row i ≡ N .row i
 
 -- what stands where no leg is
 abbrev pub noLeg : Leg

@@ -15,5 +15,5 @@ returns c =
     let e = ap (λ (k : ℕ). take k (drop (512 * c .args .b) (c .args .image .now))) n in
     record {
       value = e;
-      len = length-take-le _ (drop (512 * c .args .b) (c .args .image .now)) (omega arith) ∙ n
+      len = length-take-le _ (drop (512 * c .args .b) (c .args .image .now)) (omega arith) ∙ n;
     }

@@ -31,5 +31,5 @@ returns c =
     let e : c .loop-i .i ≡ 508 = omega arith in
     record {
       plain = ap (λ (n : ℕ). n % 65521) (c .loop-i .inv .0 ∙ ap (λ (n : ℕ). plainSum (take n (c .args .block .now))) e);
-      weighted = ap (λ (n : ℕ). n % 65521) (c .loop-i .inv .1 ∙ ap (λ (n : ℕ). weightedSum 0 (take n (c .args .block .now))) e)
+      weighted = ap (λ (n : ℕ). n % 65521) (c .loop-i .inv .1 ∙ ap (λ (n : ℕ). weightedSum 0 (take n (c .args .block .now))) e);
     }

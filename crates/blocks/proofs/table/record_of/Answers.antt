@@ -14,5 +14,5 @@ returns c =
     let d = length-drop at (c .args .block .now) in
     record {
       value = ap (λ (k : ℕ). take k (drop at (c .args .block .now))) n;
-      len = length-take-le _ (drop at (c .args .block .now)) (omega arith) ∙ n
+      len = length-take-le _ (drop at (c .args .block .now)) (omega arith) ∙ n;
     }
