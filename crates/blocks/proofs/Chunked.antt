@@ -46,7 +46,7 @@ module _ (w per : ℕ) (c : Chunks w per) where
     content-fits : (k : ℕ) → length (pile (λ r. f (per * k + r)) (inBlock per n k)) ≤ 504
     content-fits k = let a = content-length k in let b = c .fits n k in omega arith
 
-    table-block-length : (k : ℕ) → length (tableBlock per kind base f n k) ≡ 512
+    pub table-block-length : (k : ℕ) → length (tableBlock per kind base f n k) ≡ 512
     unfolding tableBlock
     table-block-length k = let a = content-fits k in length-finished (startBytes kind (base + k) ++ pile (λ r. f (per * k + r)) (inBlock per n k)) (omega arith)
 

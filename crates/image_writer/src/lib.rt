@@ -1,0 +1,7 @@
+//! Writes any network as an image.
+mod check;
+pub mod fault;
+mod legs;
+mod nodes;
+mod records;
+pub mod write;
