@@ -111,7 +111,7 @@ next-row N node leg j h a b e l =
     )
 
 -- what counting told
-answer-tells : {X : Type 0} (o : Option NetworkRefusal) (x y : X) → Ok x ≡ answerBy o y → (o ≡ None) × (x ≡ y)
+pub answer-tells : {X : Type 0} (o : Option NetworkRefusal) (x y : X) → Ok x ≡ answerBy o y → (o ≡ None) × (x ≡ y)
 answer-tells None x y e = (refl, cc e)
 answer-tells (Some f) x y e = let z : _≡_ {A = ℕ} 0 1 = cc in absurd (omega arith)
 
@@ -119,7 +119,7 @@ refusal-is : {X : Type 0} (o : Option NetworkRefusal) (r : NetworkRefusal) (y : 
 refusal-is None r y e = let z : _≡_ {A = ℕ} 0 1 = cc in absurd (omega arith)
 refusal-is (Some f) r y e = let z : f ≡ r = cc e in ap Some z
 
-unmapped : {X Y : Type 0} (f : X → Y) (o : Option X) → mapped f o ≡ None → o ≡ None
+pub unmapped : {X Y : Type 0} (f : X → Y) (o : Option X) → mapped f o ≡ None → o ≡ None
 unmapped f None e = refl
 unmapped f (Some x) e = let z : _≡_ {A = ℕ} 0 1 = cc in absurd (omega arith)
 

@@ -1,10 +1,13 @@
 //! Writes any network as an image.
 ghost use mathlib.Core.Path.{_≡_};
 ghost use Prim.Native.Nat.{ℕ, _≤_};
-ghost use lib.ListN.{length};
+ghost use lib.ListN.{length, take};
+ghost use Rattle.std.specs.Results.{isOk};
+ghost use Rattle.std.specs.Vec.{made};
 ghost use Rattle.blocks.specs.Over.{over};
 ghost use Rattle.image_format.specs.Encode.{legCount, headerBlock, encoded, encodedSize};
 ghost use Rattle.image_format.specs.RoundTrip.{Readable};
+ghost use Rattle.image_writer.specs.Promise.{CopyOf, WrittenWhen};
 ghost use Rattle.image_writer.specs.Write.{toldWrite, writeAnswer, written};
 use crate::check::check_costs;
 use crate::check::count_legs;
@@ -41,9 +44,8 @@ fn put_image<N: Network>(net: &N, m: u32, out: &mut [u8])
     put_legs(net, m, out);
 }
 
-/// Writes the image of a network and answers how many bytes it takes. The bytes beyond it stay, and a refusal changes
-/// none.
-pub fn write<N: Network>(net: &N, out: &mut [u8]) -> Result<usize, WriteFault>
+// Writes the image of a network, or refuses.
+fn write_image<N: Network>(net: &N, out: &mut [u8]) -> Result<usize, WriteFault>
     ensures answer { λ r. ⌜ toldWrite r ≡ writeAnswer (meaning (now (net .entry))) (now (out .entry)) ⌝ }
     ensures bytes { λ _. ⌜ now (out .exit) ≡ written (meaning (now (net .entry))) (now (out .entry)) ⌝ }
 {
@@ -55,4 +57,15 @@ pub fn write<N: Network>(net: &N, out: &mut [u8]) -> Result<usize, WriteFault>
     }
     put_image(net, m, out);
     Ok(size)
+}
+
+/// Writes the image of a network and answers how many bytes it takes. The bytes beyond it stay, and a refusal changes
+/// none. What is written opens, and reads back the same network.
+pub fn write<N: Network>(net: &N, out: &mut [u8]) -> Result<usize, WriteFault>
+    ensures answer { λ r. ⌜ toldWrite r ≡ writeAnswer (meaning (now (net .entry))) (now (out .entry)) ⌝ }
+    ensures bytes { λ _. ⌜ now (out .exit) ≡ written (meaning (now (net .entry))) (now (out .entry)) ⌝ }
+    ensures copy { λ r. ⌜ made r (λ k. CopyOf (meaning (now (net .entry))) (take k (now (out .exit)))) ⌝ }
+    ensures when { λ r. ⌜ WrittenWhen (meaning (now (net .entry))) (length (now (out .entry))) (isOk r) ⌝ }
+{
+    write_image(net, out)
 }
