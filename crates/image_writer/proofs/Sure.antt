@@ -67,7 +67,7 @@ copy-made N d out (Ok k) w a o = back-sure N d out k w a o
 copy-made N d out (Err e) w a o = tt
 
 -- and when it is not refused
-holds-all : (ls : List Leg) → ((k : ℕ) → k < length ls → natAbs (getD ls k noLeg .cost) ≤ mostCost) → holdsLegs ls ≡ true
+pub holds-all : (ls : List Leg) → ((k : ℕ) → k < length ls → natAbs (getD ls k noLeg .cost) ≤ mostCost) → holdsLegs ls ≡ true
 holds-all [] h = refl
 holds-all (l ∷ ls) h = and-from (holdsLeg l) (holdsLegs ls) (le-leb _ _ (h 0 (omega arith))) (holds-all ls (λ k q. h (suc k) (omega arith)))
 
