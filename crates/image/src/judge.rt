@@ -25,7 +25,7 @@ use network::limits::MAX_LEGS;
 use network::limits::MAX_NODES;
 use network::limits::MAX_TIME;
 
-const TOO_LONG: FileFault = FileFault {
+const WRONG_SIZE: FileFault = FileFault {
     part: FilePart::Size,
     block: 0,
     byte: 0,
@@ -180,7 +180,7 @@ pub(crate) fn judged(image: &[u8]) -> Result<(), FileFault>
 {
     let len = image.len();
     if len == 0 || len % 512 != 0 {
-        return Err(TOO_LONG);
+        return Err(WRONG_SIZE);
     }
     let top = block_of(image, 0);
     frame(top, 1, 0)?;
@@ -188,7 +188,7 @@ pub(crate) fn judged(image: &[u8]) -> Result<(), FileFault>
     let n = le16(top, 4);
     let m = le32(top, 10);
     if len != 512 * (1 + blocks_for(n as usize) + blocks_for(m as usize)) {
-        return Err(TOO_LONG);
+        return Err(WRONG_SIZE);
     }
     node_blocks(image, n, m)
 }

@@ -134,7 +134,7 @@ pub(crate) fn leg_at(image: &[u8], j: usize) -> Leg
 }
 
 /// Marks the leg blocks that are sound.
-pub(crate) fn sound_blocks(image: &[u8]) -> [bool; 477]
+pub(crate) fn sound_blocks(image: &[u8]) -> [bool; MAX_LEG_BLOCKS]
     requires { ⌜ Sound (now image) ⌝ }
     ensures { λ r. ⌜ Marked r (now (image .entry)) ⌝ }
 {

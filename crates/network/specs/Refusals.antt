@@ -1,5 +1,7 @@
 -- Faults in numbers: each case has its number and its values. A part that a refusal has no place for is 0.
 use Prim.Native.Nat.{ℕ}
+use Rattle.std.specs.declared.option.Option.{Option}
+use Rattle.std.specs.declared.option.Option.the-variants.{Some, None}
 use Rattle.std.specs.declared.result.Result.{Result}
 use Rattle.std.specs.declared.result.Result.the-variants.{Ok, Err}
 use Rattle.network.specs.declared.fault.FilePart.{FilePart}
@@ -56,6 +58,11 @@ networkRefusal (UnreadableRow i f) = unreadable i f
 abbrev pub toldFile : {X : Type 0} → Result X FileFault → Result X FileRefusal
 toldFile (Ok x) = Ok x
 toldFile (Err e) = Err (fileRefusal e)
+
+-- what judging a file tells: nothing where nothing is wrong, else the first fault
+abbrev pub verdict : Option FileFault → Result (Unit {0}) FileRefusal
+verdict None = Ok tt
+verdict (Some f) = Err (fileRefusal f)
 
 abbrev pub told : {X : Type 0} → Result X NetworkFault → Result X NetworkRefusal
 told (Ok x) = Ok x
