@@ -1,0 +1,4 @@
+pub mod Tables
+pub mod Judge
+pub mod Lawful
+pub mod Source
