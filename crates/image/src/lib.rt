@@ -1,5 +1,6 @@
 //! The source that reads a borrowed image in place.
 pub mod answers;
+mod built_in;
 mod judge;
 mod legs;
 mod nodes;

@@ -8,15 +8,29 @@ use tables::record::NodeRecord;
 use tables::source::TableSource;
 
 const fn node(opens: u32, closes: u32, first_leg: u32) -> NodeRecord {
-    NodeRecord { opens, closes, first_leg }
+    NodeRecord {
+        opens,
+        closes,
+        first_leg,
+    }
 }
 
 const fn leg(head: u16, duration: u32, cost: i32) -> Leg {
-    Leg { head, duration, cost }
+    Leg {
+        head,
+        duration,
+        cost,
+    }
 }
 
 /// The image of tables.
-fn image_of<'a>(heap: Global, nodes: &'a [NodeRecord], legs: &'a [Leg], depot: u16, sink: u16) -> Result<Vec<u8>, AnyError> {
+fn image_of<'a>(
+    heap: Global,
+    nodes: &'a [NodeRecord],
+    legs: &'a [Leg],
+    depot: u16,
+    sink: u16,
+) -> Result<Vec<u8>, AnyError> {
     let mut source = TableSource::built_in();
     if source.open(nodes, legs, depot, sink).is_err() {
         return Err("tables refused".into());
@@ -32,7 +46,14 @@ fn image_of<'a>(heap: Global, nodes: &'a [NodeRecord], legs: &'a [Leg], depot: u
 /// Four nodes and six legs.
 fn four(heap: Global) -> Result<Vec<u8>, AnyError> {
     let nodes = [node(0, 0, 0), node(2, 5, 2), node(1, 9, 4), node(4, 10, 6)];
-    let legs = [leg(1, 2, 4), leg(2, 3, 1), leg(3, 2, -3), leg(2, 1, -2), leg(1, 1, -2), leg(3, 4, 2)];
+    let legs = [
+        leg(1, 2, 4),
+        leg(2, 3, 1),
+        leg(3, 2, -3),
+        leg(2, 1, -2),
+        leg(1, 1, -2),
+        leg(3, 4, 2),
+    ];
     image_of(heap, &nodes, &legs, 0, 3)
 }
 
@@ -43,10 +64,20 @@ fn ring(heap: Global, n: u16) -> Result<Vec<u8>, AnyError> {
     for i in 0..43u16 {
         let number = u32::from(i);
         nodes[i as usize] = node(number, number + 1000, number);
-        legs[i as usize] = leg(if i + 1 < n { i + 1 } else { 0 }, number + 1, i32::from(i) - 21);
+        legs[i as usize] = leg(
+            if i + 1 < n { i + 1 } else { 0 },
+            number + 1,
+            i32::from(i) - 21,
+        );
     }
     let count = (n as usize).min(43);
-    image_of(heap, &nodes[0..count], &legs[0..count], 0, n.saturating_sub(1))
+    image_of(
+        heap,
+        &nodes[0..count],
+        &legs[0..count],
+        0,
+        n.saturating_sub(1),
+    )
 }
 
 /// Three nodes and 84 legs: the row of node 1 stands across both leg blocks.

@@ -32,7 +32,7 @@ module _ (s : List ℕ) (by : Bytes s) (e : Sound s) where
   -- an image holds only costs that an image can hold
   dear-none : firstOf (dearAt (imageNet s)) (nodesIn s) ≡ None
   dear-none = first-none (dearAt (imageNet s)) (nodesIn s)
-    (λ i h. ap (λ b. unless b (costTooLarge i)) (holds-all (legsAt (imageNet s) i) (λ k q. image-lawful s e .rows i h k q .in-reach)))
+      (λ i h. ap (λ b. unless b (costTooLarge i)) (holds-all (legsAt (imageNet s) i) (λ k q. image-lawful s e .rows i h k q .in-reach)))
 
   module _ (u : firstOf (unreadAt (imageNet s)) (nodesIn s) ≡ None) where
     readable : Readable (imageNet s)

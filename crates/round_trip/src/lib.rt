@@ -22,7 +22,11 @@ pub fn rewrite(source: &ImageSource<'_>, out: &mut [u8]) -> Result<usize, WriteF
 
 /// Writes a network into a buffer and opens what was written: the source then is the same network. A refusal leaves
 /// the source as it was.
-pub fn copy<'a, N: Network>(net: &N, out: &'a mut [u8], source: &mut ImageSource<'a>) -> Result<usize, WriteFault>
+pub fn copy<'a, N: Network>(
+    net: &N,
+    out: &'a mut [u8],
+    source: &mut ImageSource<'a>,
+) -> Result<usize, WriteFault>
     ensures answer { λ r. ⌜ toldWrite r ≡ writeAnswer (meaning (now (net .entry))) (now (out .entry)) ⌝ }
     ensures copy { λ r. ⌜ Cases r (λ _. Same (imageNet (held (now (source .exit) .image))) (meaning (now (net .entry)))) (λ _. now (source .exit) ≡ now (source .entry)) ⌝ }
 {

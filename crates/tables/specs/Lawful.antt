@@ -12,7 +12,7 @@ use Rattle.std.specs.declared.option.Option.the-variants.{None}
 use Rattle.std.proofs.shelf.Tests.{and-parts, leb-true, ltb-true}
 use Rattle.network.specs.First.{firstOf}
 use Rattle.network.specs.Lawful.{Lawful, LawfulLeg, LawfulWindow}
-use Rattle.network.specs.Limits.{mostNodes, mostLegs, mostTime, mostReach}
+use Rattle.network.specs.Limits.{mostNodes, mostLegs, mostReach}
 use Rattle.network.specs.Meaning.{noLeg, allLegs}
 use Rattle.network.specs.Rows.{leastFirst, mostFirst, InOrder}
 use Rattle.network.specs.declared.leg.Leg.{Leg}

@@ -9,5 +9,5 @@ returns c =
     let e = c .args .source .now .sound in
     record {
       answer = c .write .ensures .answer ∙ answer-again s by e (c .args .out .now);
-      bytes = c .write .ensures .bytes ∙ bytes-again s by e (c .args .out .now)
+      bytes = c .write .ensures .bytes ∙ bytes-again s by e (c .args .out .now);
     }

@@ -1,8 +1,6 @@
 use mathlib.Core.Path.{_≡_}
 use native.Mathlib.Omega.{arith}
-use Prim.Native.Nat.{max}
 use lib.IntN.{natAbs}
-use lib.ListN.{drop}
 use borrow.Author.Needs.{needs}
 use Rattle.std.proofs.shelf.Lists.{at-drop-more, at-drop-all}
 use Rattle.network.specs.Meaning.{noLeg}
