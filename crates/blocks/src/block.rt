@@ -11,13 +11,18 @@ use crate::check::check_of;
 use network::fault::FileFault;
 use network::fault::FilePart;
 
+/// How many bytes a block has, and where its check stands.
+pub const BLOCK_LEN: usize = 512;
+
+pub const CHECK_AT: usize = 508;
+
 /// Block `b` of an image.
 pub fn block_of(image: &[u8], b: usize) -> &[u8]
     requires { ⌜ 512 * b + 512 ≤ length (now image) ⌝ }
     ensures value { λ r. ⌜ now r ≡ blockOf (now (image .entry)) b ⌝ }
     ensures len { λ r. ⌜ length (now r) ≡ 512 ⌝ }
 {
-    &image[512 * b..512 * b + 512]
+    &image[BLOCK_LEN * b..BLOCK_LEN * b + BLOCK_LEN]
 }
 
 /// Judges check, kind, zero byte and number of a block.
@@ -26,7 +31,7 @@ pub fn frame(block: &[u8], kind: u8, number: u16) -> Result<(), FileFault>
     ensures { λ r. ⌜ errPart r ≡ frameFault (now (block .entry)) kind number ⌝ }
 {
     let check = check_of(block);
-    if le16(block, 508) != check.plain || le16(block, 510) != check.weighted {
+    if le16(block, CHECK_AT) != check.plain || le16(block, CHECK_AT + 2) != check.weighted {
         return Err(FileFault {
             part: FilePart::Check,
             block: number,
@@ -63,7 +68,7 @@ pub fn unused(block: &[u8], from: usize, part: FilePart, number: u16) -> Result<
     requires { ⌜ from ≤ 508 ⌝ }
     ensures { λ r. ⌜ errPart r ≡ unusedFault (now (block .entry)) from part number ⌝ }
 {
-    for k in 0..508 - from {
+    for k in 0..CHECK_AT - from {
         if block[from + k] != 0 {
             return Err(FileFault {
                 part,
@@ -91,7 +96,7 @@ fn clear(block: &mut [u8], used: usize)
     requires { ⌜ used ≤ 508 ⌝ }
     ensures { λ _. ⌜ take 508 (now (block .exit)) ≡ take used (now (block .entry)) ++ replicate (508 - used) 0 ⌝ }
 {
-    for k in 0..508 - used {
+    for k in 0..CHECK_AT - used {
         block[used + k] = 0;
     }
 }
@@ -104,6 +109,6 @@ pub fn finish(block: &mut [u8], used: usize)
 {
     clear(block, used);
     let check = check_of(block);
-    put16(block, 508, check.plain);
-    put16(block, 510, check.weighted);
+    put16(block, CHECK_AT, check.plain);
+    put16(block, CHECK_AT + 2, check.weighted);
 }

@@ -2,6 +2,7 @@
 ghost use mathlib.Core.Path.{_≡_};
 ghost use lib.ListN.{length};
 ghost use Rattle.blocks.specs.Numbers.{plainCheck, weightedCheck};
+use crate::block::CHECK_AT;
 
 /// The two sums of a check.
 #[derive(Clone, Copy)]
@@ -20,7 +21,7 @@ pub fn check_of(block: &[u8]) -> Check
 {
     let mut plain: u32 = 0;
     let mut weighted: u32 = 0;
-    for i in 0..508 {
+    for i in 0..CHECK_AT {
         let byte = block[i] as u32;
         plain += byte;
         weighted += (i as u32 + 1) * byte;

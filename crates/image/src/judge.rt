@@ -10,6 +10,7 @@ ghost use Rattle.image_format.specs.Layout.{firstLeg};
 ghost use Rattle.image_format.specs.Judge.{judge as judgement, headerFault, nodeFault, nodeFaultAt, nodeBlockFault};
 use crate::nodes::first_leg;
 use crate::nodes::node_record;
+use blocks::block::BLOCK_LEN;
 use blocks::block::block_of;
 use blocks::block::frame;
 use blocks::block::unused;
@@ -19,6 +20,9 @@ use blocks::table::PER_BLOCK;
 use blocks::table::WIDTH;
 use blocks::table::blocks_for;
 use blocks::table::in_block;
+use image_format::HEADER_KIND;
+use image_format::NODE_KIND;
+use image_format::image_len;
 use network::fault::FileFault;
 use network::fault::FilePart;
 use network::limits::MAX_LEGS;
@@ -153,7 +157,7 @@ fn node_block(image: &[u8], n: u16, m: u32, k: usize) -> Result<(), FileFault>
 {
     let block = block_of(image, 1 + k);
     let count = in_block(n as usize, k);
-    frame(block, 2, (1 + k) as u16)?;
+    frame(block, NODE_KIND, (1 + k) as u16)?;
     node_records(image, m, k, count)?;
     unused(
         block,
@@ -179,15 +183,15 @@ pub(crate) fn judged(image: &[u8]) -> Result<(), FileFault>
     ensures { λ r. ⌜ errPart r ≡ judgement (now (image .entry)) ⌝ }
 {
     let len = image.len();
-    if len == 0 || len % 512 != 0 {
+    if len == 0 || len % BLOCK_LEN != 0 {
         return Err(WRONG_SIZE);
     }
     let top = block_of(image, 0);
-    frame(top, 1, 0)?;
+    frame(top, HEADER_KIND, 0)?;
     header(top)?;
     let n = le16(top, 4);
     let m = le32(top, 10);
-    if len != 512 * (1 + blocks_for(n as usize) + blocks_for(m as usize)) {
+    if len != image_len(n, m) {
         return Err(WRONG_SIZE);
     }
     node_blocks(image, n, m)

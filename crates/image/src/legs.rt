@@ -23,13 +23,12 @@ use blocks::table::blocks_for;
 use blocks::table::in_block;
 use blocks::table::record_at;
 use blocks::table::record_of;
+use image_format::LEG_KIND;
+use image_format::MAX_COST;
 use network::fault::FileFault;
 use network::fault::FilePart;
 use network::leg::Leg;
 use network::limits::MAX_TIME;
-
-/// The largest size of a cost in an image.
-pub(crate) const MAX_COST: u32 = 10_000_000;
 
 /// The most leg blocks that an image has.
 pub(crate) const MAX_LEG_BLOCKS: usize = 477;
@@ -101,7 +100,7 @@ fn leg_block(block: &[u8], n: u16, number: u16, count: usize) -> Result<(), File
     requires { ⌜ count ≤ 42 ⌝ }
     ensures { λ o. ⌜ errPart o ≡ legBlockFault (now (block .entry)) n number count ⌝ }
 {
-    frame(block, 3, number)?;
+    frame(block, LEG_KIND, number)?;
     leg_records(block, n, number, count)?;
     unused(block, 4 + WIDTH * count, FilePart::LegTable, number)
 }

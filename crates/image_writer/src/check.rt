@@ -10,14 +10,12 @@ ghost use Rattle.network.specs.Refusals.{told};
 ghost use Rattle.image_format.specs.RoundTrip.{Readable};
 ghost use Rattle.image_writer.specs.Write.{countAnswer, holdsLeg, holdsLegs, dearAt, writeRefusal};
 use crate::fault::WriteFault;
+use image_format::MAX_COST;
 use network::fault::NetworkFault;
 use network::leg::Leg;
 use network::network::Network;
 use network::reading::leg_at;
 use network::reading::len_at;
-
-/// The largest size of a cost in an image.
-const MAX_COST: u32 = 10_000_000;
 
 /// How many legs there are, once every row is found readable.
 pub(crate) fn count_legs<N: Network>(net: &N) -> Result<u32, NetworkFault>

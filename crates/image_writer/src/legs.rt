@@ -10,11 +10,13 @@ ghost use Rattle.image_format.specs.Encode.{legCount, firstOfNode};
 ghost use Rattle.image_format.specs.RoundTrip.{Readable};
 ghost use Rattle.image_writer.specs.Write.{Standing, legBlockOf};
 use crate::records::put_leg;
+use blocks::block::BLOCK_LEN;
 use blocks::block::finish;
 use blocks::block::start;
 use blocks::table::WIDTH;
 use blocks::table::blocks_for;
 use blocks::table::in_block;
+use image_format::LEG_KIND;
 use network::network::Network;
 use network::reading::leg_at;
 use network::reading::len_at;
@@ -64,7 +66,7 @@ fn put_leg_block<N: Network>(
     ensures next { λ r. ⌜ Standing (meaning (now (net .entry))) (r .node) (r .leg) (42 * k + count) ⌝ }
     ensures bytes { λ _. ⌜ now (block .exit) ≡ legBlockOf (meaning (now (net .entry))) k ⌝ }
 {
-    start(block, 3, b);
+    start(block, LEG_KIND, b);
     let mut node = at.node;
     let mut leg = at.leg;
     for r in 0..count {
@@ -89,8 +91,8 @@ pub(crate) fn put_legs<N: Network>(net: &N, m: u32, out: &mut [u8])
     let mut place = Place { node: 0, leg: 0 };
     for k in 0..blocks_for(legs) {
         let b = base + k;
-        let at = 512 * b;
+        let at = BLOCK_LEN * b;
         let count = in_block(legs, k);
-        place = put_leg_block(net, &mut out[at..at + 512], b as u16, k, count, place);
+        place = put_leg_block(net, &mut out[at..at + BLOCK_LEN], b as u16, k, count, place);
     }
 }

@@ -9,12 +9,14 @@ ghost use Rattle.image_format.specs.Encode.{firstOfNode};
 ghost use Rattle.image_format.specs.RoundTrip.{Readable};
 ghost use Rattle.image_writer.specs.Write.{nodeBlockOf};
 use crate::records::put_node;
+use blocks::block::BLOCK_LEN;
 use blocks::block::finish;
 use blocks::block::start;
 use blocks::table::PER_BLOCK;
 use blocks::table::WIDTH;
 use blocks::table::blocks_for;
 use blocks::table::in_block;
+use image_format::NODE_KIND;
 use network::network::Network;
 use network::reading::len_at;
 use network::reading::window_at;
@@ -30,7 +32,7 @@ fn put_node_block<N: Network>(net: &N, block: &mut [u8], k: usize, count: usize,
     ensures next { λ r. ⌜ r ≡ firstOfNode (meaning (now (net .entry))) (42 * k + count) ⌝ }
     ensures bytes { λ _. ⌜ now (block .exit) ≡ nodeBlockOf (meaning (now (net .entry))) k ⌝ }
 {
-    start(block, 2, (1 + k) as u16);
+    start(block, NODE_KIND, (1 + k) as u16);
     let mut next = first;
     for r in 0..count {
         let i = (PER_BLOCK * k + r) as u16;
@@ -51,8 +53,8 @@ pub(crate) fn put_nodes<N: Network>(net: &N, out: &mut [u8])
     let n = net.node_count() as usize;
     let mut first = 0;
     for k in 0..blocks_for(n) {
-        let at = 512 * k + 512;
+        let at = BLOCK_LEN * k + BLOCK_LEN;
         let count = in_block(n, k);
-        first = put_node_block(net, &mut out[at..at + 512], k, count, first);
+        first = put_node_block(net, &mut out[at..at + BLOCK_LEN], k, count, first);
     }
 }

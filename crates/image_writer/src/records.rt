@@ -11,6 +11,7 @@ use blocks::block::start;
 use blocks::bytes::put_signed32;
 use blocks::bytes::put16;
 use blocks::bytes::put32;
+use image_format::HEADER_KIND;
 use network::leg::Leg;
 use network::leg::Window;
 
@@ -18,7 +19,7 @@ pub(crate) fn put_header(block: &mut [u8], n: u16, depot: u16, sink: u16, m: u32
     requires { ⌜ length (now block) ≡ 512 ⌝ }
     ensures { λ _. ⌜ now (block .exit) ≡ finished (startBytes 1 0 ++ headerBytes n depot sink m) ⌝ }
 {
-    start(block, 1, 0);
+    start(block, HEADER_KIND, 0);
     put16(block, 4, n);
     put16(block, 6, depot);
     put16(block, 8, sink);

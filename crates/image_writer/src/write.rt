@@ -16,7 +16,8 @@ use crate::fault::WriteFaultFromNetworkFault;
 use crate::legs::put_legs;
 use crate::nodes::put_nodes;
 use crate::records::put_header;
-use blocks::table::blocks_for;
+use blocks::block::BLOCK_LEN;
+use image_format::image_len;
 use network::network::Network;
 
 fn put_top<N: Network>(net: &N, m: u32, out: &mut [u8])
@@ -25,7 +26,7 @@ fn put_top<N: Network>(net: &N, m: u32, out: &mut [u8])
     ensures { λ _. ⌜ now (out .exit) ≡ over (now (out .entry)) 0 (headerBlock (meaning (now (net .entry)))) ⌝ }
 {
     put_header(
-        &mut out[0..512],
+        &mut out[0..BLOCK_LEN],
         net.node_count(),
         net.depot(),
         net.sink(),
@@ -51,7 +52,7 @@ fn write_image<N: Network>(net: &N, out: &mut [u8]) -> Result<usize, WriteFault>
 {
     let m = count_legs(net)?;
     check_costs(net)?;
-    let size = 512 * (1 + blocks_for(net.node_count() as usize) + blocks_for(m as usize));
+    let size = image_len(net.node_count(), m);
     if out.len() < size {
         return Err(WriteFault::NoRoom);
     }

@@ -14,9 +14,9 @@ pub returns-in-Break-header : need.returns-in-Break-header
 unfolding judge
 returns-in-Break-header c = search needs
 
-pub returns-then-len-blocks-for : need.returns-then-len-blocks-for
+pub returns-then-len-image-len : need.returns-then-len-image-len
 unfolding judge
-returns-then-len-blocks-for c = search needs
+returns-then-len-image-len c = search needs
 
 pub returns : need.returns
 unfolding judge
