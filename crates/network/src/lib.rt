@@ -2,6 +2,7 @@
 //! refuse with.
 pub mod fault;
 pub mod leg;
+pub mod lent;
 pub mod limits;
 pub mod network;
 pub mod reading;
