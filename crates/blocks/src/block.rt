@@ -32,32 +32,16 @@ pub fn frame(block: &[u8], kind: u8, number: u16) -> Result<(), FileFault>
 {
     let check = check_of(block);
     if le16(block, CHECK_AT) != check.plain || le16(block, CHECK_AT + 2) != check.weighted {
-        return Err(FileFault {
-            part: FilePart::Check,
-            block: number,
-            byte: 508,
-        });
+        return Err(FilePart::Check.at(number, CHECK_AT as u16));
     }
     if block[0] != kind {
-        return Err(FileFault {
-            part: FilePart::Frame,
-            block: number,
-            byte: 0,
-        });
+        return Err(FilePart::Frame.at(number, 0));
     }
     if block[1] != 0 {
-        return Err(FileFault {
-            part: FilePart::Frame,
-            block: number,
-            byte: 1,
-        });
+        return Err(FilePart::Frame.at(number, 1));
     }
     if le16(block, 2) != number {
-        return Err(FileFault {
-            part: FilePart::Frame,
-            block: number,
-            byte: 2,
-        });
+        return Err(FilePart::Frame.at(number, 2));
     }
     Ok(())
 }
@@ -70,11 +54,7 @@ pub fn unused(block: &[u8], from: usize, part: FilePart, number: u16) -> Result<
 {
     for k in 0..CHECK_AT - from {
         if block[from + k] != 0 {
-            return Err(FileFault {
-                part,
-                block: number,
-                byte: (from + k) as u16,
-            });
+            return Err(part.at(number, (from + k) as u16));
         }
     }
     Ok(())

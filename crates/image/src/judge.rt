@@ -41,32 +41,16 @@ fn header(block: &[u8]) -> Result<(), FileFault>
 {
     let n = le16(block, 4);
     if n < 1 || n > MAX_NODES {
-        return Err(FileFault {
-            part: FilePart::Header,
-            block: 0,
-            byte: 4,
-        });
+        return Err(FilePart::Header.at(0, 4));
     }
     if le16(block, 6) >= n {
-        return Err(FileFault {
-            part: FilePart::Header,
-            block: 0,
-            byte: 6,
-        });
+        return Err(FilePart::Header.at(0, 6));
     }
     if le16(block, 8) >= n {
-        return Err(FileFault {
-            part: FilePart::Header,
-            block: 0,
-            byte: 8,
-        });
+        return Err(FilePart::Header.at(0, 8));
     }
     if le32(block, 10) > MAX_LEGS {
-        return Err(FileFault {
-            part: FilePart::Header,
-            block: 0,
-            byte: 10,
-        });
+        return Err(FilePart::Header.at(0, 10));
     }
     unused(block, 14, FilePart::Header, 0)
 }
@@ -96,25 +80,13 @@ fn node_fault(t: &[u8], block: u16, byte: u16, low: u32, high: u32) -> Result<()
     let closes = le32(t, 4);
     let first = le32(t, 8);
     if opens > MAX_TIME {
-        return Err(FileFault {
-            part: FilePart::NodeTable,
-            block,
-            byte,
-        });
+        return Err(FilePart::NodeTable.at(block, byte));
     }
     if closes < opens || closes > MAX_TIME {
-        return Err(FileFault {
-            part: FilePart::NodeTable,
-            block,
-            byte: byte + 4,
-        });
+        return Err(FilePart::NodeTable.at(block, byte + 4));
     }
     if first < low || first > high {
-        return Err(FileFault {
-            part: FilePart::NodeTable,
-            block,
-            byte: byte + 8,
-        });
+        return Err(FilePart::NodeTable.at(block, byte + 8));
     }
     Ok(())
 }

@@ -41,32 +41,16 @@ fn leg_fault(t: &[u8], n: u16, block: u16, byte: u16) -> Result<(), FileFault>
 {
     let duration = le32(t, 4);
     if le16(t, 0) >= n {
-        return Err(FileFault {
-            part: FilePart::LegTable,
-            block,
-            byte,
-        });
+        return Err(FilePart::LegTable.at(block, byte));
     }
     if le16(t, 2) != 0 {
-        return Err(FileFault {
-            part: FilePart::LegTable,
-            block,
-            byte: byte + 2,
-        });
+        return Err(FilePart::LegTable.at(block, byte + 2));
     }
     if duration < 1 || duration > MAX_TIME {
-        return Err(FileFault {
-            part: FilePart::LegTable,
-            block,
-            byte: byte + 4,
-        });
+        return Err(FilePart::LegTable.at(block, byte + 4));
     }
     if signed32(t, 8).unsigned_abs() > MAX_COST {
-        return Err(FileFault {
-            part: FilePart::LegTable,
-            block,
-            byte: byte + 8,
-        });
+        return Err(FilePart::LegTable.at(block, byte + 8));
     }
     Ok(())
 }

@@ -98,13 +98,6 @@ fn run(rt: &LibcRuntime, image: &[u8]) -> io::Result<()> {
 fn main(rt: LibcRuntime) -> io::Result<()> {
     match input(&rt, rt.alloc())? {
         Some(image) => run(&rt, image.as_slice()),
-        None => refuse(
-            &rt,
-            FileFault {
-                part: FilePart::Size,
-                block: 0,
-                byte: 0,
-            },
-        ),
+        None => refuse(&rt, FilePart::Size.at(0, 0)),
     }
 }

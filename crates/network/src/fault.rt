@@ -1,7 +1,7 @@
 //! Why a file is refused, and why a network does not answer.
 ghost use mathlib.Core.Path.{_≡_};
 ghost use Rattle.std.specs.Results.{mapped};
-ghost use Rattle.network.specs.Refusals.{partNumber, fileRefusal, networkRefusal};
+ghost use Rattle.network.specs.Refusals.{partNumber, fault, networkRefusal};
 ghost use Rattle.network.specs.declared.fault.NetworkFault.the-variants.{UnreadableRow};
 
 /// The part of a file that is wrong.
@@ -27,6 +27,17 @@ impl FilePart {
         ensures { λ r. ⌜ r ≡ partNumber self ⌝ }
     {
         self as u8
+    }
+
+    /// A fault of this part, at a byte of a block.
+    pub fn at(self, block: u16, byte: u16) -> FileFault
+        ensures { λ r. ⌜ r ≡ fault self block byte ⌝ }
+    {
+        FileFault {
+            part: self,
+            block,
+            byte,
+        }
     }
 }
 

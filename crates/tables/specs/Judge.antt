@@ -10,6 +10,7 @@ use Rattle.std.specs.Options.{isSome, orOther}
 use Rattle.std.specs.declared.option.Option.{Option}
 use Rattle.network.specs.First.{unless, firstOf}
 use Rattle.network.specs.Limits.{mostNodes, mostLegs, mostTime, mostReach}
+use Rattle.network.specs.Refusals.{fault}
 use Rattle.network.specs.Rows.{leastFirst, mostFirst}
 use Rattle.network.specs.declared.fault.FileFault.{FileFault}
 use Rattle.network.specs.declared.fault.FilePart.{FilePart}
@@ -20,7 +21,7 @@ use Rattle.tables.specs.Tables.{nodeAt, legAt, firstLeg}
 
 -- a fault of a part of the tables: block 0, and the number of the record
 abbrev pub faultAt : FilePart → ℕ → FileFault
-faultAt part i = record { part = part; block = 0; byte = i }
+faultAt part i = fault part 0 i
 
 -- n nodes, m legs, the depot and the sink keep the limits
 abbrev pub validHeader : ℕ → ℕ → ℕ → ℕ → Bool

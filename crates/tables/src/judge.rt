@@ -25,11 +25,7 @@ fn verdict(valid: bool, part: FilePart, at: usize) -> Result<(), FileFault>
     if valid {
         Ok(())
     } else {
-        Err(FileFault {
-            part,
-            block: 0,
-            byte: at as u16,
-        })
+        Err(part.at(0, at as u16))
     }
 }
 

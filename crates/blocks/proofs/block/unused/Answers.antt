@@ -15,7 +15,7 @@ unfolding unusedFault
 returns-then-block-from-ne0 c =
     let f : ℕ → Option FileFault = byteFault (c .args .block .now) (c .args .from) (c .args .part) (c .args .number) in
     let here : f (c .loop-k .k) ≡ Some (fault (c .args .part) (c .args .number) (c .args .from + c .loop-k .k)) = search needs in
-    sym (first-here f (c .loop-k .k) (508 - c .args .from) _ (omega arith) (c .loop-k .inv) here)
+    ap Some (c .at .ensures) ∙ sym (first-here f (c .loop-k .k) (508 - c .args .from) _ (omega arith) (c .loop-k .inv) here)
 
 pub loop-k-again : need.loop-k-again
 loop-k-again c =
