@@ -1,0 +1,4 @@
+pub mod Counts
+pub mod Rings
+pub mod Piles
+pub mod Steps

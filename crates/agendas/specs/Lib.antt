@@ -1,0 +1,5 @@
+pub mod Bags
+pub mod Queues
+pub mod Timeds
+pub mod Heaps
+pub mod TimeFirsts

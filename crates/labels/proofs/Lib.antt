@@ -1,0 +1,4 @@
+pub mod Bounds
+pub mod Sets
+pub mod Plains
+pub mod Onces

@@ -1,0 +1,5 @@
+pub mod Steps
+pub mod Kinds
+pub mod Plains
+pub mod Sets
+pub mod Onces
