@@ -27,3 +27,4 @@ pub fn reprice<N: Network>(net: &mut Sealed<Prices<N>>) -> Result<(), LayerFault
 PROGRAM
 rt dev priced_sealed > told.txt 2>&1 || true
 grep 'priced_sealed/src/lib.rt' told.txt | sed "s|$work/||"
+grep -q 'error\[unknown-method\]: no method named `price`' told.txt

@@ -1,20 +1,20 @@
 -- Accepted prices: none is too large, and no cost is cut.
 use mathlib.Core.Path.{_≡_, refl, sym, ap, _∙_}
-use mathlib.Core.Bool.{Bool, true}
+use mathlib.Core.Bool.{true}
 use mathlib.Core.List.{List, [], _∷_, map}
 use mathlib.Core.Logic.{⊎-elim}
-use Prim.Native.Nat.{ℕ, _+_, _^_, _≤_, _<_, min}
+use Prim.Native.Nat.{ℕ, _+_, _≤_, _<_}
 use native.Mathlib.Omega.{arith}
 use lib.Dec.{leb, ltb}
 use lib.IntN.{ℤ, pos, negsuc, negℤ, _-ℤ_, natAbs}
-use lib.ListN.{length, getD, set, replicate}
+use lib.ListN.{length, set, replicate}
 use Rattle.std.specs.declared.result.Result.the-variants.{Ok, Err}
 use Rattle.std.specs.Results.{mapped}
 use Rattle.std.specs.Numbers.{maxZ, minZ, saturated}
 use Rattle.std.specs.shelf.Lists.{All}
 use Rattle.std.proofs.shelf.Elements.{all-from-getD, all-weaker}
 use Rattle.std.proofs.shelf.Lists.{getD-replicate, getD-past, getD-set-same, getD-set-other, set-past, length-replicate}
-use Rattle.std.proofs.shelf.Signed.{ints, clamps}
+use Rattle.std.proofs.shelf.Signed.{ints}
 use Rattle.std.proofs.shelf.Tests.{le-leb, leb-true, and-from, and-parts, cases-lt, cases-eq, lt-ltb, cond-true}
 use Rattle.network.specs.Answers.{legAnswer}
 use Rattle.network.specs.Lawful.{Lawful, LawfulLeg}
@@ -52,9 +52,9 @@ module _ (prices : List ℤ) (m : Net) (i k : ℕ) where
   through : legAnswer (priced prices m) i k ≡ mapped (pricedLeg (pricedReach (m .reach)) (priceOf prices i)) (λ e. e) (legAnswer m i k)
   through = leg-mapped (λ i. pricedLeg (pricedReach (m .reach)) (priceOf prices i)) (pricedReach (m .reach)) m i k
 
-  pub leg-given : (l r : Leg) (reach : ℕ) (price : ℤ) → Ok l ≡ legAnswer m i k → reach ≡ pricedReach (m .reach) → price ≡ priceOf prices i → r ≡ pricedLeg reach price l → Ok r ≡ legAnswer (priced prices m) i k
-  leg-given l r reach price e f p h =
-      ap Ok (h ∙ ap (λ (x : ℕ). pricedLeg x price l) f ∙ ap (λ (x : ℤ). pricedLeg (pricedReach (m .reach)) x l) p)
+  pub leg-given : (l r : Leg) (reach : ℕ) (q price : ℤ) → Ok l ≡ legAnswer m i k → reach ≡ pricedReach (m .reach) → q ≡ price → price ≡ priceOf prices i → r ≡ pricedLeg reach q l → Ok r ≡ legAnswer (priced prices m) i k
+  leg-given l r reach q price e f b p h =
+      ap Ok (h ∙ ap (λ (x : ℕ). pricedLeg x q l) f ∙ ap (λ (x : ℤ). pricedLeg (pricedReach (m .reach)) x l) (b ∙ p))
       ∙ ap (mapped (pricedLeg (pricedReach (m .reach)) (priceOf prices i)) (λ e. e)) e ∙ sym through
 
   pub leg-refused : (r : NetworkRefusal) → Err r ≡ legAnswer m i k → Err r ≡ legAnswer (priced prices m) i k

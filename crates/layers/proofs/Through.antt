@@ -1,5 +1,5 @@
 -- The answers of a layer, from those below.
-use mathlib.Core.Path.{_≡_, refl, sym, ap, _∙_}
+use mathlib.Core.Path.{_≡_, refl, ap, _∙_}
 use mathlib.Core.Bool.{Bool, true, false, cond}
 use mathlib.Core.List.{List, map}
 use Prim.Native.Nat.{ℕ, _<_}
@@ -45,30 +45,11 @@ module _ (g : ℕ → Leg → Leg) (reach : ℕ) (m : Net) where
   pub length-mapped : (i : ℕ) → lengthAnswer (layered (λ i. map (g i)) reach m) i ≡ lengthAnswer m i
   length-mapped i = ap (ifNode m i) (row-length i (m .row i))
 
--- a refusal of the length is one of the length and of each leg above
-row-refused : (f : List Leg → List Leg) (i k : ℕ) (r : NetworkRefusal) (row : Row) → Err r ≡ rowLength i row → (Err r ≡ rowLength i (onLegs f row)) × (Err r ≡ rowLeg i k (onLegs f row))
-row-refused f i k r (Legs ls) e = let z : _≡_ {A = ℕ} 0 1 = cc in absurd (omega arith)
-row-refused f i k r (Unreadable x) e = (e, cc e)
-
-under : {X : Type 0} (b : Bool) (r s : NetworkRefusal) (x : Result ℕ NetworkRefusal) (y : Result X NetworkRefusal) → (Err r ≡ x → Err r ≡ y) → Err r ≡ cond b x (Err s) → Err r ≡ cond b y (Err s)
-under true r s x y f e = f e
-under false r s x y f e = cc e
-
 readable-row : (f : List Leg → List Leg) (row : Row) → faultIn row ≡ None → onLegs f row ≡ Legs (f (legsOf row))
 readable-row f (Legs ls) e = refl
 readable-row f (Unreadable x) e = let z : _≡_ {A = ℕ} 0 1 = cc in absurd (omega arith)
 
 module _ (f : ℕ → List Leg → List Leg) (reach : ℕ) (m : Net) where
-  pub refused-length : (i : ℕ) (r : NetworkRefusal) → Err r ≡ lengthAnswer m i → Err r ≡ lengthAnswer (layered f reach m) i
-  refused-length i r e =
-      under (ltb i (m .n)) r (noNode i) (rowLength i (m .row i)) (rowLength i (onLegs (f i) (m .row i)))
-      (λ h. row-refused (f i) i 0 r (m .row i) h .0) e
-
-  pub refused-leg : (i k : ℕ) (r : NetworkRefusal) → Err r ≡ lengthAnswer m i → Err r ≡ legAnswer (layered f reach m) i k
-  refused-leg i k r e =
-      under (ltb i (m .n)) r (noNode i) (rowLength i (m .row i)) (rowLeg i k (onLegs (f i) (m .row i)))
-      (λ h. row-refused (f i) i k r (m .row i) h .1) e
-
   -- what a row that can be read answers above
   pub given-length : (i : ℕ) → i < m .n → faultIn (m .row i) ≡ None → lengthAnswer (layered f reach m) i ≡ Ok (length (f i (legsAt m i)))
   given-length i h e =

@@ -2,7 +2,6 @@
 use mathlib.Core.Bool.{not}
 use mathlib.Core.Path.{refl}
 use native.Mathlib.Omega.{arith}
-use lib.ListN.{length}
 use Rattle.std.specs.shelf.Lists.{kept-by}
 use Rattle.std.proofs.shelf.Elements.{all-kept-by}
 use Rattle.std.proofs.shelf.Filters.{length-kept-by-both}

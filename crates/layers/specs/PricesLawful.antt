@@ -3,10 +3,9 @@ use mathlib.Core.List.{List, map}
 use Prim.Native.Nat.{ℕ, _≤_}
 use native.Mathlib.Omega.{arith}
 use lib.IntN.{ℤ, pos, negsuc, negℤ, _-ℤ_, natAbs}
-use lib.ListN.{length, length-map}
+use lib.ListN.{length-map}
 use lib.Signed.{_≤ℤ_}
 use Rattle.std.specs.Numbers.{maxZ, minZ}
-use Rattle.std.specs.shelf.Lists.{All}
 use Rattle.std.proofs.shelf.Elements.{all-weaker, all-map}
 use Rattle.std.proofs.shelf.Signed.{ints, clamps}
 use Rattle.network.specs.Lawful.{Lawful, LawfulLeg}

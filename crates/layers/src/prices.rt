@@ -1,10 +1,10 @@
 //! Prices at nodes.
 ghost use mathlib.Core.Path.{_≡_};
-ghost use Prim.Native.Nat.{_≤_};
+ghost use Prim.Native.Nat.{_≤_, _<_};
 ghost use lib.IntN.{pos, _-ℤ_};
 ghost use lib.ListN.{replicate};
 ghost use Rattle.network.specs.Limits.{mostNodes, mostReach};
-ghost use Rattle.layers.specs.Prices.{acceptable, cut, pricedLeg, pricedReach, priced, setPrice, Accepted};
+ghost use Rattle.layers.specs.Prices.{acceptable, cut, pricedLeg, pricedReach, priceOf, priced, setPrice, Accepted};
 ghost use Rattle.layers.specs.PricesLawful.{priced-lawful};
 ghost use Rattle.layers.specs.Refusals.{told};
 use crate::draft::Draft;
@@ -79,6 +79,14 @@ impl<N: Network> Prices<N> {
             },
         }
     }
+
+    // The price of node `i`.
+    fn price_of(&self, i: u16) -> i32
+        requires { ⌜ i < mostNodes ⌝ }
+        ensures { λ r. ⌜ r ≡ priceOf (now (self .entry) .prices) i ⌝ }
+    {
+        self.prices[i as usize]
+    }
 }
 
 impl<N: Network> Draft<Prices<N>> {
@@ -133,6 +141,6 @@ pub impl<N: Network> Network for Sealed<Prices<N>> as PricesNetwork {
 
     fn leg(&self, i: u16, k: u16) -> Result<Leg, NetworkFault> {
         let leg = self.layer.below.leg(i, k)?;
-        Ok(priced_leg(leg, self.layer.prices[i as usize], self.reach()))
+        Ok(priced_leg(leg, self.layer.price_of(i), self.reach()))
     }
 }

@@ -1,6 +1,5 @@
 use mathlib.Core.Path.{sym}
 use lib.Dec.{eqb}
-use borrow.Author.Needs.{needs}
 use Rattle.std.proofs.shelf.Tests.{eq-eqb, ne-eqb}
 use Rattle.layers.proofs.Barring.{pair-found, pair-passed, pairs-passed}
 use Rattle.layers.proofs.bars.has_pair_from.Needs as need

@@ -27,8 +27,8 @@ loop-k-again g c =
     let h : c .loop-k .k < length (legsAt m (c .args .i)) = omega (arith, v .2, c .loop-k-test .taken) in
     let e = walked m (c .pairs-pairs .result .now) (c .args .i) (c .loop-k .k) (c .leg-at-leg .result) (c .has-pair .result) h (c .leg-at-leg .ensures) (c .has-pair .ensures) in
     elim (c .if-not-has-pair .came) [
-      | then-not-has-pair w ↦ (v .0, v .1, v .2, omega (arith, e, v .3, w .count-is, ap counts (w .if-not-has-pair .taken)))
-      | else-not-has-pair w ↦ (v .0, v .1, v .2, omega (arith, e, v .3, w .count-is, ap counts (w .if-not-has-pair .left)))
+      | then-not-has-pair w ↦ (v .0, v .1, v .2, omega (arith, e, v .3, w .count-is, ap counts {x = c .has-pair .result} (w .if-not-has-pair .taken)))
+      | else-not-has-pair w ↦ (v .0, v .1, v .2, omega (arith, e, v .3, w .count-is, ap counts {x = c .has-pair .result} (w .if-not-has-pair .left)))
     ]
 
 pub returns : need.returns

@@ -1,15 +1,12 @@
 use mathlib.Core.Path.{_≡_, refl, sym, ap, _∙_}
 use mathlib.Core.Bool.{true}
-use Prim.Native.Nat.{ℕ, _<_}
+use Prim.Native.Nat.{_<_}
 use lib.IntN.{ℤ}
-use lib.ListN.{length, set}
 use native.Mathlib.Omega.{arith}
-use borrow.Author.Needs.{needs}
 use mir.Syntax.{w32}
 use mir.Val.{toZ, ofZ}
-use Rattle.std.specs.declared.result.Result.the-variants.{Ok}
 use Rattle.std.proofs.shelf.Signed.{toZ-ofZ}
-use Rattle.layers.specs.Prices.{acceptable, Accepted}
+use Rattle.layers.specs.Prices.{acceptable}
 use Rattle.layers.proofs.Pricing.{price-set, accepted-more}
 use Rattle.layers.proofs.prices.Draft+Prices+N.price.Needs as need
 

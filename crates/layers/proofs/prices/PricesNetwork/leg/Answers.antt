@@ -1,8 +1,4 @@
-use borrow.Author.Needs.{needs}
-use lib.IntN.{pos}
-use lib.ListN.{getD}
 use mir.Syntax.{w32}
-use mir.Val.{SFits}
 use Rattle.std.proofs.shelf.Results.{err-from-errBy}
 use Rattle.std.proofs.shelf.Signed.{toZ-ofZ}
 use Rattle.layers.proofs.Pricing.{leg-given, leg-refused}
@@ -17,6 +13,5 @@ returns-in-Break-leg g c =
 pub returns : need.returns
 returns g c =
     let s = c .args .self .now .layer in
-    let f : SFits w32 (getD (s .prices) (c .args .i) (pos 0)) = search needs in
-    leg-given (s .prices) (g .N·Network .meaning (s .below)) (c .args .i) (c .args .k) (c .in-Continue-leg .leg) (c .priced-leg .result) _ _
-    (c .in-Continue-leg .ensures tt) (c .reach .ensures) (toZ-ofZ w32 _ f) (c .priced-leg .ensures)
+    leg-given (s .prices) (g .N·Network .meaning (s .below)) (c .args .i) (c .args .k) (c .in-Continue-leg .leg) (c .priced-leg .result) (c .reach .result) _ (c .price-of .result)
+    (c .in-Continue-leg .ensures tt) (c .reach .ensures) (toZ-ofZ w32 (c .price-of .result) (record { sfits = c .price-of .ok })) (c .price-of .ensures) (c .priced-leg .ensures)
