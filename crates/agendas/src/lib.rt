@@ -1,4 +1,6 @@
 //! Agendas: in which order the entries of a search are taken up.
+#![tactic(auto)]
+
 pub mod agenda;
 pub mod capacity;
 pub mod fault;

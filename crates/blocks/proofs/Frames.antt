@@ -1,6 +1,6 @@
 -- A finished block passes, and a block that passes is a finished one.
-use Rattle.std.proofs.Common.{◌≡◌, ℕ, zero, suc, ◌+◌, ◌-◌, ◌*◌, ◌/◌, ◌%◌, ◌^◌, ◌<◌, ◌≤◌, true, eqb, List, [], ◌∷◌, ◌++◌, length, get_or, take, drop, replicate, Some, None, Option, sym, refl, ap, ◌∙◌, arith, length-append, length-drop, length-take, take-add}
-use Rattle.std.proofs.lemmas.List.{append_assoc, append-nil, take_at, drop_at, drop-drop, length-replicate, length-take-le, take_all, take-take, take-append-drop, get_or-append-add, get_or_append_left, get_or-replicate, get_or-take, get_or-drop, ext_get_or}
+use Rattle.std.proofs.Common.{◌≡◌, ℕ, ◌+◌, ◌-◌, ◌%◌, ◌<◌, ◌≤◌, List, [], ◌∷◌, ◌++◌, length, get_or, take, drop, replicate, None, sym, refl, ap, ◌∙◌, arith, length-append, length-drop, take-add}
+use Rattle.std.proofs.lemmas.List.{append_assoc, take_at, drop-drop, length-replicate, length-take-le, take_all, take-take, take-append-drop, get_or-append-add, get_or_append_left, get_or-replicate, get_or-take, get_or-drop, ext_get_or}
 use Rattle.std.proofs.lemmas.Bool.{eq-eqb, eqb-true}
 use Rattle.std.proofs.lemmas.Bool.Decides.{nat_tests}
 use Rattle.network.specs.First.{unless}
@@ -9,7 +9,7 @@ use Rattle.network.specs.declared.fault.FilePart.{FilePart}
 use Rattle.blocks.specs.Numbers.{Bytes, u16_at, bytes16, plain_sum, weighted_sum, plain_check, weighted_check}
 use Rattle.blocks.specs.Blocks.{body, finished, start_bytes, frame_fault, unused_fault, byte_fault}
 use Rattle.network.proofs.Firsts.{first_none, first_each, passes}
-use Rattle.blocks.proofs.Fields.{read16, back16, back32, cut2, cut4, two}
+use Rattle.blocks.proofs.Fields.{read16, back16, cut4, two}
 
 -- a check reads the first 508 bytes alone
 pub plain_front : (s : List ℕ) → plain_check s ≡ plain_check (take 508 s)

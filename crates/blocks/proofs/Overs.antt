@@ -1,9 +1,8 @@
 -- Lists that are written over.
-use Rattle.std.proofs.Common.{◌≡◌, ℕ, suc, ◌+◌, ◌-◌, ◌*◌, ◌/◌, ◌%◌, ◌^◌, ◌<◌, ◌≤◌, List, [], ◌∷◌, ◌++◌, length, get_or, take, drop, set, replicate, ℤ, sym, refl, ap, ◌∙◌, add-zero, arith, length-append, length-drop, length-set, length-take, w32, SFits, to_z, of_z}
+use Rattle.std.proofs.Common.{◌≡◌, ℕ, suc, ◌+◌, ◌-◌, ◌≤◌, List, [], ◌∷◌, ◌++◌, length, take, drop, set, replicate, sym, refl, ap, ◌∙◌, add-zero, arith, length-append, length-drop, length-take}
 use borrow.Rule.Slice.PartMut.{put_mid, post_of}
-use Rattle.std.proofs.lemmas.List.{take-append-drop, take-take, drop_all, get_or_at, get_or-append-add, append_assoc, append-nil, take_at, drop_at, drop-drop, length-take-le, same_lists, places, take-append-le, drop-append-le}
+use Rattle.std.proofs.lemmas.List.{take-append-drop, drop_all, append_assoc, append-nil, take_at, drop_at, drop-drop, length-take-le}
 use Rattle.std.proofs.lemmas.List.Edits.{sets, sets-eq}
-use Rattle.std.proofs.lemmas.Int.{to_z-of_z, ints}
 use Rattle.blocks.specs.Numbers.{bytes16, plain_check, weighted_check}
 use Rattle.blocks.specs.Blocks.{body, finished}
 use Rattle.blocks.proofs.Frames.{plain_front, weighted_front}

@@ -1,5 +1,5 @@
 -- Blocks of 512 bytes: kind (byte 0), zero (1), number (2 and 3), content (4 to 507), check (508 to 511).
-use Rattle.std.specs.Prelude.{ℕ, ◌+◌, ◌-◌, ◌*◌, ◌&&◌, List, [], ◌∷◌, ◌++◌, length, take, drop, replicate, Option, ◌==◌, slice_index}
+use Rattle.std.specs.Prelude.{ℕ, ◌+◌, ◌-◌, ◌*◌, ◌&&◌, List, ◌∷◌, ◌++◌, length, take, drop, replicate, Option, ◌==◌, slice_index}
 use Rattle.std.specs.Option.{option_or}
 use Rattle.network.specs.First.{unless, first_of}
 use Rattle.network.specs.Refusals.{fault}

@@ -1,4 +1,6 @@
 //! The source that reads a borrowed image in place.
+#![tactic(auto)]
+
 pub mod answers;
 mod built_in;
 mod judge;

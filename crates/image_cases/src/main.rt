@@ -4,6 +4,8 @@
 //! edits are `OFFSET=VALUE`, which sets a byte, `fit:B`, which puts the check of block B right, `cut:N`, which keeps
 //! the first N bytes, and `pad:N`, which appends N zero bytes. The answer is a line `refused NUMBER BLOCK BYTE`, or `ok`
 //! with ` 9:NODE:NUMBER:BLOCK:BYTE` for each row that cannot be read.
+#![tactic(auto)]
+
 mod bases;
 mod edits;
 

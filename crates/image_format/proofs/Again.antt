@@ -1,5 +1,5 @@
 -- An image without fault whose rows can all be read is the image of its network.
-use Rattle.std.proofs.Common.{◌≡◌, ℕ, ◌+◌, ◌-◌, ◌*◌, ◌/◌, ◌%◌, ◌^◌, ◌<◌, ◌≤◌, List, ◌++◌, map, length, get_or, take, drop, Some, None, Option, sym, refl, ap, ◌∙◌, arith, length-drop, take-add, w32, of_z}
+use Rattle.std.proofs.Common.{◌≡◌, ℕ, ◌+◌, ◌*◌, ◌/◌, ◌%◌, ◌^◌, ◌<◌, ◌≤◌, List, ◌++◌, map, length, get_or, take, drop, Some, None, Option, sym, refl, ap, ◌∙◌, arith, length-drop, take-add, w32, of_z}
 use Rattle.std.specs.List.{range_with_len}
 use Rattle.std.proofs.lemmas.List.FromFn.{length-map-range_with_len, get_or-map-range_with_len}
 use Rattle.std.proofs.lemmas.List.{drop-drop, take_all, length-take-le}
@@ -13,7 +13,7 @@ use Rattle.network.proofs.Piles.{holding}
 use Rattle.network.proofs.Starts.{start_in_lem, start_end, start_zero, below_is}
 use Rattle.blocks.specs.Numbers.{Bytes, u16_at, u32_at, i32_at, bytes16, bytes32}
 use Rattle.blocks.specs.Blocks.{block_of, finished, start_bytes}
-use Rattle.blocks.specs.Tables.{blocks_for, in_block, record_of, record_at, table_bytes, Framed}
+use Rattle.blocks.specs.Tables.{blocks_for, in_block, record_of, record_at, table_bytes}
 use Rattle.blocks.proofs.Fields.{back16, back32}
 use Rattle.blocks.proofs.Frames.{block_is}
 use Rattle.blocks.proofs.Parts.{bytes_part, block_length, block_bytes, image_split}

@@ -21,11 +21,11 @@ use Rattle.blocks.specs.Tables.{blocks_for, in_block, record_of, record_at, Fram
 use Rattle.blocks.proofs.Fields.{value32, value_signed}
 use Rattle.blocks.proofs.Frames.{length-finished, frame_passes, unused_passes}
 use Rattle.blocks.proofs.Chunked.{chunks12, kept, table_length}
-use Rattle.image_format.specs.Layout.{nodes_in, depot_in_image, sink_in_image, legs_in, node_record, first_leg_of, start, leg_base, leg_record, most_cost}
+use Rattle.image_format.specs.Layout.{nodes_in, legs_in, node_record, first_leg_of, start, leg_base, leg_record, most_cost}
 use Rattle.image_format.specs.Judge.{judge, header_fault, node_fault, node_fault_at, node_block_fault, block_count, leg_fault, leg_fault_in, leg_block_fault, leg_block_fault_at}
 use Rattle.image_format.specs.Decode.{blocks_over, span_fault, window_in, leg_in_record, leg_at, row_by, row_span, image_net}
 use Rattle.image_format.specs.Encode.{header_bytes, node_bytes, leg_bytes, leg_count, first_of_node, node_bytes_at, leg_bytes_at, header_block, node_table, leg_table, encoded, encoded_size}
-use Rattle.image_format.specs.RoundTrip.{Readable, Holdable, ReadBack, WrittenIsRead}
+use Rattle.image_format.specs.RoundTrip.{Holdable, WrittenIsRead}
 
 -- the header
 record HeaderIs (h : List ℕ) (n depot sink m : ℕ) : Type 0 where

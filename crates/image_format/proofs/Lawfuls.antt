@@ -1,6 +1,6 @@
 -- The network of an image without fault is lawful.
 use Rattle.std.proofs.Common.{◌≡◌, ℕ, ◌+◌, ◌-◌, ◌<◌, ◌≤◌, List, length, get_or, Some, None, Option, sym, refl, ◌∙◌, subst, arith}
-use Rattle.network.specs.Meaning.{Net, legs_of, legs_at, no_leg}
+use Rattle.network.specs.Meaning.{legs_of, legs_at, no_leg}
 use Rattle.network.specs.Lawful.{Lawful, LawfulLeg}
 use Rattle.network.specs.Rows.{legs_from}
 use Rattle.network.specs.declared.fault.FileFault.{FileFault}

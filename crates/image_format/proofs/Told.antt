@@ -1,8 +1,8 @@
 -- What the network of an image answers.
-use Rattle.std.proofs.Common.{◌≡◌, ℕ, ◌+◌, ◌-◌, ◌<◌, ◌≤◌, cond, ltb, List, length, get_or, Some, None, Ok, Err, Result, sym, refl, ap, ◌∙◌, arith}
+use Rattle.std.proofs.Common.{◌≡◌, ℕ, ◌+◌, ◌-◌, ◌<◌, ◌≤◌, cond, ltb, List, length, get_or, Some, None, Ok, Err, Result, refl, ap, ◌∙◌, arith}
 use Rattle.std.specs.Result.{result_map_both, result_err}
 use Rattle.std.proofs.lemmas.Bool.{lt-ltb, le-ltb, cond-true, cond-false}
-use Rattle.network.specs.Meaning.{Row, no_leg}
+use Rattle.network.specs.Meaning.{no_leg}
 use Rattle.network.specs.Refusals.{no_such_leg, unreadable}
 use Rattle.network.specs.Answers.{length_answer, row_length, leg_answer, row_leg}
 use Rattle.network.specs.Rows.{legs_from}
@@ -10,7 +10,7 @@ use Rattle.network.specs.declared.fault.FileFault.{FileFault}
 use Rattle.network.proofs.Facts.{at_node_lem}
 use Rattle.network.proofs.Starts.{length_from, item_from}
 use Rattle.image_format.specs.Layout.{nodes_in, start}
-use Rattle.image_format.specs.Decode.{span_fault, leg_at, row_by, row_span, image_net}
+use Rattle.image_format.specs.Decode.{span_fault, leg_at, row_by, image_net}
 
 -- a result that is handed up as it was made
 pub fine : {T E D : Type 0} (r : Result T E) (a : Result T D) (g : E → D) (x : T) → a ≡ result_map_both (λ y. y) g r → a ≡ Ok x → result_err r ≡ None

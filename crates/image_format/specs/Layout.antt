@@ -1,5 +1,5 @@
 -- Where things stand in an image: block 0 is the header, then come the node blocks, then the leg blocks.
-use Rattle.std.specs.Prelude.{ℕ, ◌+◌, List, ℤ}
+use Rattle.std.specs.Prelude.{ℕ, ◌+◌, List}
 use Rattle.network.specs.Rows.{start_of}
 use Rattle.blocks.specs.Numbers.{u16_at, u32_at}
 use Rattle.blocks.specs.Blocks.{block_of}

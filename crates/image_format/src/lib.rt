@@ -1,4 +1,6 @@
 //! The image format: what an image means, how a network is encoded, and that the two are inverse to each other.
+#![tactic(auto)]
+
 ghost use Rattle.std.specs.Prelude.{◌≡◌, ◌*◌};
 ghost use Rattle.image_format.specs.Judge.{block_count};
 ghost use Rattle.image_format.specs.RoundTrip.{WrittenIsRead, ReadIsWritten};

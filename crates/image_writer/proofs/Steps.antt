@@ -1,5 +1,5 @@
 -- One more record, block, row or leg.
-use Rattle.std.proofs.Common.{◌≡◌, ℕ, zero, suc, ◌+◌, ◌-◌, ◌*◌, ◌/◌, ◌<◌, ◌≤◌, min, Bool, true, false, cond, ◌&&◌, leb, List, [], ◌∷◌, ◌++◌, length, get_or, take, drop, Some, None, Ok, Err, Option, Result, sym, refl, ap, ◌∙◌, subst, ⊎_elim, add-zero, add-one, arith, length-append}
+use Rattle.std.proofs.Common.{◌≡◌, ℕ, ◌+◌, ◌*◌, ◌<◌, ◌≤◌, Bool, true, false, ◌&&◌, leb, List, ◌++◌, length, get_or, take, drop, Some, None, Ok, Err, Option, Result, sym, refl, ap, ◌∙◌, ⊎_elim, add-one, arith}
 use borrow.Rule.Slice.PartMut.{put_mid}
 use Rattle.std.specs.Option.{option_map, option_or}
 use Rattle.std.proofs.lemmas.List.{append_assoc, at_drop_more, at_drop_all}
@@ -17,9 +17,9 @@ use Rattle.image_format.specs.RoundTrip.{Readable}
 use Rattle.image_format.proofs.Back.{first_grows, first_next, node_each, leg_each}
 use Rattle.blocks.proofs.Chunked.{chunks12, table_block_length}
 use Rattle.network.proofs.Piles.{length-pile}
-use Rattle.network.proofs.Firsts.{first_more, first_here, first_each, both}
+use Rattle.network.proofs.Firsts.{first_more, first_here, first_each}
 use Rattle.blocks.specs.Over.{over}
-use Rattle.image_writer.specs.Write.{unread_at, holds_leg, holds_legs, dear_at, write_fault, answer_by, bytes_by, count_answer, write_answer, written, node_block_of, leg_block_of, Standing, cost_too_large, no_room}
+use Rattle.image_writer.specs.Write.{unread_at, holds_leg, holds_legs, dear_at, write_fault, answer_by, bytes_by, count_answer, write_answer, written, node_block_of, leg_block_of, cost_too_large, no_room}
 use Rattle.blocks.proofs.Overs.{next, grow, part_over, over_front}
 
 -- rows

@@ -17,7 +17,7 @@ use network::reading::{leg_at, len_at};
 
 /// How many legs there are, once every row is found readable.
 pub(crate) fn count_legs<N: Network>(net: &N) -> Result<u32, NetworkFault>
-    ensures { told result ≡ count_answer (meaning net.now) }
+    ensures { told result ≡ count_answer (N.meaning net.now) }
 {
     let mut total: u32 = 0;
     for i in 0..net.node_count() {
@@ -34,9 +34,9 @@ fn holds_leg(l: Leg) -> bool
 }
 
 fn holds_row<N: Network>(net: &N, i: u16) -> bool
-    requires node { i < (meaning net.now).n }
-    requires readable { fault_in ((meaning net.now).row i) ≡ None }
-    ensures { result ≡ holds_legs (legs_at (meaning net.now) i) }
+    requires node { i < (N.meaning net.now).n }
+    requires readable { fault_in ((N.meaning net.now).row i) ≡ None }
+    ensures { result ≡ holds_legs (legs_at (N.meaning net.now) i) }
 {
     let len = len_at(net, i);
     for k in 0..len {
@@ -49,8 +49,8 @@ fn holds_row<N: Network>(net: &N, i: u16) -> bool
 
 /// Refuses at the lowest node with a cost that an image cannot hold.
 pub(crate) fn check_costs<N: Network>(net: &N) -> Result<(), WriteFault>
-    requires readable { Readable (meaning net.now) }
-    ensures { option_map write_refusal (result_err result) ≡ first_of (dear_at (meaning net.now)) (meaning net.now).n }
+    requires readable { Readable (N.meaning net.now) }
+    ensures { option_map write_refusal (result_err result) ≡ first_of (dear_at (N.meaning net.now)) (N.meaning net.now).n }
 {
     for i in 0..net.node_count() {
         if !holds_row(net, i) {

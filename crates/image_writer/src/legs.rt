@@ -24,13 +24,13 @@ pub(crate) struct Place {
 
 // The leg that a place is next to: that of a later row where its own is at an end.
 fn settled<N: Network>(net: &N, at: Place) -> Place
-    requires readable { Readable (meaning net.now) }
-    requires node { at.node < (meaning net.now).n }
-    requires leg { at.leg ≤ length (legs_at (meaning net.now) at.node) }
-    requires more { first_of_node (meaning net.now) at.node + at.leg < leg_count (meaning net.now) }
-    ensures node { result.node < (meaning net.now).n }
-    ensures leg { result.leg < length (legs_at (meaning net.now) result.node) }
-    ensures place { first_of_node (meaning net.now) result.node + result.leg ≡ first_of_node (meaning net.now) at.node + at.leg }
+    requires readable { Readable (N.meaning net.now) }
+    requires node { at.node < (N.meaning net.now).n }
+    requires leg { at.leg ≤ length (legs_at (N.meaning net.now) at.node) }
+    requires more { first_of_node (N.meaning net.now) at.node + at.leg < leg_count (N.meaning net.now) }
+    ensures node { result.node < (N.meaning net.now).n }
+    ensures leg { result.leg < length (legs_at (N.meaning net.now) result.node) }
+    ensures place { first_of_node (N.meaning net.now) result.node + result.leg ≡ first_of_node (N.meaning net.now) at.node + at.leg }
 {
     let mut node = at.node;
     let mut leg = at.leg;
@@ -52,13 +52,13 @@ fn put_leg_block<N: Network>(
     at: Place,
 ) -> Place
     requires len { length block.old ≡ 512 }
-    requires readable { Readable (meaning net.now) }
-    requires number { b ≡ 1 + blocks_for 42 (meaning net.now).n + k }
-    requires within { k < blocks_for 42 (leg_count (meaning net.now)) }
-    requires counted { count ≡ in_block 42 (leg_count (meaning net.now)) k }
-    requires begins { Standing (meaning net.now) at.node at.leg (42 * k) }
-    ensures next { Standing (meaning net.now) result.node result.leg (42 * k + count) }
-    ensures bytes { block.new ≡ leg_block_of (meaning net.now) k }
+    requires readable { Readable (N.meaning net.now) }
+    requires number { b ≡ 1 + blocks_for 42 (N.meaning net.now).n + k }
+    requires within { k < blocks_for 42 (leg_count (N.meaning net.now)) }
+    requires counted { count ≡ in_block 42 (leg_count (N.meaning net.now)) k }
+    requires begins { Standing (N.meaning net.now) at.node at.leg (42 * k) }
+    ensures next { Standing (N.meaning net.now) result.node result.leg (42 * k + count) }
+    ensures bytes { block.new ≡ leg_block_of (N.meaning net.now) k }
 {
     start(block, LEG_KIND, b);
     let mut node = at.node;
@@ -75,10 +75,10 @@ fn put_leg_block<N: Network>(
 
 /// Writes the leg blocks after the node blocks.
 pub(crate) fn put_legs<N: Network>(net: &N, m: u32, out: &mut [u8])
-    requires readable { Readable (meaning net.now) }
-    requires counted { m ≡ leg_count (meaning net.now) }
-    requires room { 512 * (1 + blocks_for 42 (meaning net.now).n + blocks_for 42 m) ≤ length out.old }
-    ensures { out.new ≡ over out.old (512 * (1 + blocks_for 42 (meaning net.now).n)) (pile (leg_block_of (meaning net.now)) (blocks_for 42 (leg_count (meaning net.now)))) }
+    requires readable { Readable (N.meaning net.now) }
+    requires counted { m ≡ leg_count (N.meaning net.now) }
+    requires room { 512 * (1 + blocks_for 42 (N.meaning net.now).n + blocks_for 42 m) ≤ length out.old }
+    ensures { out.new ≡ over out.old (512 * (1 + blocks_for 42 (N.meaning net.now).n)) (pile (leg_block_of (N.meaning net.now)) (blocks_for 42 (leg_count (N.meaning net.now)))) }
 {
     let base = 1 + blocks_for(net.node_count() as usize);
     let legs = m as usize;

@@ -1,4 +1,6 @@
 //! Writes any network as an image.
+#![tactic(auto)]
+
 mod check;
 pub mod fault;
 mod legs;

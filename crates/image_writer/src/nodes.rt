@@ -18,12 +18,12 @@ use network::reading::{len_at, window_at};
 // after it.
 fn put_node_block<N: Network>(net: &N, block: &mut [u8], k: usize, count: usize, first: u32) -> u32
     requires len { length block.old ≡ 512 }
-    requires readable { Readable (meaning net.now) }
-    requires within { k < blocks_for 42 (meaning net.now).n }
-    requires counted { count ≡ in_block 42 (meaning net.now).n k }
-    requires begins { first ≡ first_of_node (meaning net.now) (42 * k) }
-    ensures next { result ≡ first_of_node (meaning net.now) (42 * k + count) }
-    ensures bytes { block.new ≡ node_block_of (meaning net.now) k }
+    requires readable { Readable (N.meaning net.now) }
+    requires within { k < blocks_for 42 (N.meaning net.now).n }
+    requires counted { count ≡ in_block 42 (N.meaning net.now).n k }
+    requires begins { first ≡ first_of_node (N.meaning net.now) (42 * k) }
+    ensures next { result ≡ first_of_node (N.meaning net.now) (42 * k + count) }
+    ensures bytes { block.new ≡ node_block_of (N.meaning net.now) k }
 {
     start(block, NODE_KIND, (1 + k) as u16);
     let mut next = first;
@@ -39,9 +39,9 @@ fn put_node_block<N: Network>(net: &N, block: &mut [u8], k: usize, count: usize,
 
 /// Writes the node blocks after the header's.
 pub(crate) fn put_nodes<N: Network>(net: &N, out: &mut [u8])
-    requires readable { Readable (meaning net.now) }
-    requires room { 512 * (1 + blocks_for 42 (meaning net.now).n) ≤ length out.old }
-    ensures { out.new ≡ over out.old 512 (pile (node_block_of (meaning net.now)) (blocks_for 42 (meaning net.now).n)) }
+    requires readable { Readable (N.meaning net.now) }
+    requires room { 512 * (1 + blocks_for 42 (N.meaning net.now).n) ≤ length out.old }
+    ensures { out.new ≡ over out.old 512 (pile (node_block_of (N.meaning net.now)) (blocks_for 42 (N.meaning net.now).n)) }
 {
     let n = net.node_count() as usize;
     let mut first = 0;

@@ -16,9 +16,9 @@ use image_format::image_len;
 use network::network::Network;
 
 fn put_top<N: Network>(net: &N, m: u32, out: &mut [u8])
-    requires counted { m ≡ leg_count (meaning net.now) }
+    requires counted { m ≡ leg_count (N.meaning net.now) }
     requires room { 512 ≤ length out.old }
-    ensures { out.new ≡ over out.old 0 (header_block (meaning net.now)) }
+    ensures { out.new ≡ over out.old 0 (header_block (N.meaning net.now)) }
 {
     put_header(
         &mut out[0..BLOCK_LEN],
@@ -30,10 +30,10 @@ fn put_top<N: Network>(net: &N, m: u32, out: &mut [u8])
 }
 
 fn put_image<N: Network>(net: &N, m: u32, out: &mut [u8])
-    requires readable { Readable (meaning net.now) }
-    requires counted { m ≡ leg_count (meaning net.now) }
-    requires room { encoded_size (meaning net.now) ≤ length out.old }
-    ensures { out.new ≡ over out.old 0 (encoded (meaning net.now)) }
+    requires readable { Readable (N.meaning net.now) }
+    requires counted { m ≡ leg_count (N.meaning net.now) }
+    requires room { encoded_size (N.meaning net.now) ≤ length out.old }
+    ensures { out.new ≡ over out.old 0 (encoded (N.meaning net.now)) }
 {
     put_top(net, m, out);
     put_nodes(net, out);
@@ -42,8 +42,8 @@ fn put_image<N: Network>(net: &N, m: u32, out: &mut [u8])
 
 // Writes the image of a network, or refuses.
 fn write_image<N: Network>(net: &N, out: &mut [u8]) -> Result<usize, WriteFault>
-    ensures answer { told_write result ≡ write_answer (meaning net.now) out.old }
-    ensures bytes { out.new ≡ written (meaning net.now) out.old }
+    ensures answer { told_write result ≡ write_answer (N.meaning net.now) out.old }
+    ensures bytes { out.new ≡ written (N.meaning net.now) out.old }
 {
     let m = count_legs(net)?;
     check_costs(net)?;
@@ -58,10 +58,10 @@ fn write_image<N: Network>(net: &N, out: &mut [u8]) -> Result<usize, WriteFault>
 /// Writes the image of a network and answers how many bytes it takes. The bytes beyond it stay, and a refusal changes
 /// none. What is written opens, and reads back the same network.
 pub fn write<N: Network>(net: &N, out: &mut [u8]) -> Result<usize, WriteFault>
-    ensures answer { told_write result ≡ write_answer (meaning net.now) out.old }
-    ensures bytes { out.new ≡ written (meaning net.now) out.old }
-    ensures copy { IfOk result (λ k. CopyOf (meaning net.now) (take k out.new)) }
-    ensures when { WrittenWhen (meaning net.now) (length out.old) (is_ok result) }
+    ensures answer { told_write result ≡ write_answer (N.meaning net.now) out.old }
+    ensures bytes { out.new ≡ written (N.meaning net.now) out.old }
+    ensures copy { IfOk result (λ k. CopyOf (N.meaning net.now) (take k out.new)) }
+    ensures when { WrittenWhen (N.meaning net.now) (length out.old) (is_ok result) }
 {
     write_image(net, out)
 }

@@ -10,7 +10,7 @@ use network::network::Network;
 /// A network with two prices, as far as they are accepted: every leg costs what it costs below, less the price of the
 /// node that it leaves.
 pub fn priced_twice<N: Network>(net: N, first: (u16, i32), second: (u16, i32)) -> Sealed<Prices<N>>
-    ensures { (i : ℕ) → i < (meaning net).n → (priced result.layer.prices (meaning result.layer.below)).row i ≡ on_legs (map (cheaper (price_of result.layer.prices i))) ((meaning net).row i) }
+    ensures { (i : ℕ) → i < (N.meaning net).n → (priced result.layer.prices (N.meaning result.layer.below)).row i ≡ on_legs (map (cheaper (price_of result.layer.prices i))) ((N.meaning net).row i) }
 {
     let mut draft = Prices::over(net);
     let _ = draft.price(first.0, first.1);

@@ -87,7 +87,7 @@ impl<N: Network> Draft<Bars<N>> {
     /// Refuses 7 where there is no node `i`, or no node `j`, then 11 where 256 other pairs are barred. A pair that is
     /// barred already takes no further place. A refusal changes nothing.
     pub fn bar(&mut self, i: u16, j: u16) -> Result<(), LayerFault>
-        ensures step { (told result, standing self.new.layer.table self.new.layer.count) ≡ bar_pair (meaning self.old.layer.below) (standing self.old.layer.table self.old.layer.count) i j }
+        ensures step { (told result, standing self.new.layer.table self.new.layer.count) ≡ bar_pair (N.meaning self.old.layer.below) (standing self.old.layer.table self.old.layer.count) i j }
         ensures below { self.new.layer.below ≡ self.old.layer.below }
     {
         if i >= self.layer.below.node_count() {

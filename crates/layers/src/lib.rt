@@ -2,6 +2,8 @@
 //!
 //! A layer holds the network below it by value. It is changed as a draft, and answers as a network once it is sealed,
 //! so that another layer can stand on it.
+#![tactic(auto)]
+
 pub mod bars;
 pub mod draft;
 pub mod fault;

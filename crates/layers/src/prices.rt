@@ -65,7 +65,7 @@ impl<N: Network> Prices<N> {
     pub fn over(below: N) -> Draft<Prices<N>>
         ensures prices { result.layer.prices ≡ replicate most_nodes (pos 0) }
         ensures below { result.layer.below ≡ below }
-        ensures accepted { Accepted result.layer.prices (meaning below) }
+        ensures accepted { Accepted result.layer.prices (N.meaning below) }
     {
         Draft {
             layer: Prices {
@@ -90,9 +90,9 @@ impl<N: Network> Draft<Prices<N>> {
     /// Refuses 7 where there is no such node, then 10 where the price is above 10,000,000 in size, or above
     /// 1,000,000,000 together with the reach below. A refusal changes nothing.
     pub fn price(&mut self, node: u16, price: i32) -> Result<(), LayerFault>
-        ensures step { (told result, self.new.layer.prices) ≡ set_price (meaning self.old.layer.below) self.old.layer.prices node price }
+        ensures step { (told result, self.new.layer.prices) ≡ set_price (N.meaning self.old.layer.below) self.old.layer.prices node price }
         ensures below { self.new.layer.below ≡ self.old.layer.below }
-        ensures accepted { Accepted self.old.layer.prices (meaning self.old.layer.below) → Accepted self.new.layer.prices (meaning self.new.layer.below) }
+        ensures accepted { Accepted self.old.layer.prices (N.meaning self.old.layer.below) → Accepted self.new.layer.prices (N.meaning self.new.layer.below) }
     {
         if node >= self.layer.below.node_count() {
             return Err(LayerFault::NoNode { node });

@@ -1,4 +1,6 @@
 //! Lists the network of an image that is read from standard input.
+#![tactic(auto)]
+
 use image::source::ImageSource;
 use listing::{input, list, refuse};
 use network::fault::FilePart;

@@ -1,4 +1,6 @@
 //! The lines that list a network, and the image that a program reads.
+#![tactic(auto)]
+
 ghost use Rattle.std.specs.Prelude.{◌≤◌, IfSome, IfOk, vec_len};
 
 use network::fault::{FileFault, NetworkFault};

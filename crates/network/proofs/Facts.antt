@@ -1,11 +1,10 @@
 -- What an answer tells of a network.
-use Rattle.std.proofs.Common.{◌≡◌, ℕ, ◌<◌, ◌≤◌, cond, ltb, length, get_or, Some, None, Ok, Err, Result, sym, refl, ap, ◌∙◌, arith}
+use Rattle.std.proofs.Common.{◌≡◌, ℕ, ◌<◌, length, get_or, Some, None, Ok, Err, Result, refl, ◌∙◌, arith}
 use Rattle.std.specs.Option.{option_map}
 use Rattle.std.proofs.lemmas.Bool.{lt-ltb, cond-true}
 use Rattle.network.specs.Meaning.{Net, Row, legs_row, unreadable_row, legs_of, legs_at, fault_in, no_leg}
 use Rattle.network.specs.Refusals.{NetworkRefusal, unreadable}
 use Rattle.network.specs.Answers.{if_node, leg_answer, row_leg, length_answer, row_length}
-use Rattle.network.specs.declared.leg.Leg.{Leg}
 
 pub at_node_lem : {X : Type 0} (N : Net) (i : ℕ) (a : Result X NetworkRefusal) → i < N.n → if_node N i a ≡ a
 at_node_lem N i a h = cond-true _ _ _ (lt-ltb i N.n h)

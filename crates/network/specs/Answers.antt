@@ -1,5 +1,5 @@
 -- What each question to a network answers: 7 comes first, then 9, then 8.
-use Rattle.std.specs.Prelude.{ℕ, cond, List, length, Ok, Err, Result, nat_lt, slice_index_or}
+use Rattle.std.specs.Prelude.{ℕ, cond, length, Ok, Err, Result, nat_lt, slice_index_or}
 use Rattle.network.specs.Meaning.{Net, Row, legs_row, unreadable_row, no_leg}
 use Rattle.network.specs.Refusals.{NetworkRefusal, no_node, no_such_leg, unreadable}
 use Rattle.network.specs.declared.leg.Leg.{Leg}

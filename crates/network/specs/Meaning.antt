@@ -1,5 +1,5 @@
 -- What a network means.
-use Rattle.std.specs.Prelude.{◌≡◌, ℕ, ◌<◌, List, [], ◌∷◌, pos, Some, None, Option}
+use Rattle.std.specs.Prelude.{◌≡◌, ℕ, ◌<◌, List, [], pos, Some, None, Option}
 use Rattle.network.specs.Limits.{most_time}
 use Rattle.network.specs.Pile.{pile}
 use Rattle.network.specs.declared.fault.FileFault.{FileFault}

@@ -1,6 +1,6 @@
 -- Rows that stand one after another in one list of m legs: each runs from its node's first leg up to the next node's,
 -- the last up to m.
-use Rattle.std.specs.Prelude.{ℕ, ◌-◌, ◌<◌, ◌≤◌, cond, List, map, ◌==◌, nat_lt}
+use Rattle.std.specs.Prelude.{ℕ, ◌-◌, ◌≤◌, cond, List, map, ◌==◌, nat_lt}
 use Rattle.std.specs.List.{range_with_len}
 use Rattle.network.specs.declared.leg.Leg.{Leg}
 

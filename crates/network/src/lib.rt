@@ -1,5 +1,7 @@
 //! What a network of stops and legs is: the questions that every source and layer answers, and the faults that they
 //! refuse with.
+#![tactic(auto)]
+
 pub mod fault;
 pub mod leg;
 pub mod lent;

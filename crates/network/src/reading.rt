@@ -7,8 +7,8 @@ use crate::network::Network;
 
 /// The window of a node that is there.
 pub fn window_at<N: Network>(net: &N, i: u16) -> Window
-    requires node { i < (meaning net.now).n }
-    ensures { result ≡ (meaning net.now).window i }
+    requires node { i < (N.meaning net.now).n }
+    ensures { result ≡ (N.meaning net.now).window i }
 {
     match net.window(i) {
         Ok(w) => w,
@@ -18,9 +18,9 @@ pub fn window_at<N: Network>(net: &N, i: u16) -> Window
 
 /// The length of a row that can be read.
 pub fn len_at<N: Network>(net: &N, i: u16) -> u16
-    requires node { i < (meaning net.now).n }
-    requires readable { fault_in ((meaning net.now).row i) ≡ None }
-    ensures { result ≡ length (legs_at (meaning net.now) i) }
+    requires node { i < (N.meaning net.now).n }
+    requires readable { fault_in ((N.meaning net.now).row i) ≡ None }
+    ensures { result ≡ length (legs_at (N.meaning net.now) i) }
 {
     match net.row_len(i) {
         Ok(n) => n,
@@ -30,9 +30,9 @@ pub fn len_at<N: Network>(net: &N, i: u16) -> u16
 
 /// A leg that is there.
 pub fn leg_at<N: Network>(net: &N, i: u16, k: u16) -> Leg
-    requires node { i < (meaning net.now).n }
-    requires within { k < length (legs_at (meaning net.now) i) }
-    ensures { result ≡ slice_index_or (legs_at (meaning net.now) i) k no_leg }
+    requires node { i < (N.meaning net.now).n }
+    requires within { k < length (legs_at (N.meaning net.now) i) }
+    ensures { result ≡ slice_index_or (legs_at (N.meaning net.now) i) k no_leg }
 {
     match net.leg(i, k) {
         Ok(l) => l,

@@ -12,7 +12,7 @@ use network::reading::{leg_at, window_at};
 
 /// The step along leg `k` of node `i`; refused as the leg itself is.
 pub fn step_along<N: Network>(net: &N, i: u16, k: u16) -> Result<Step, NetworkFault>
-    ensures { told result ≡ step_answer (meaning net.now) i k }
+    ensures { told result ≡ step_answer (N.meaning net.now) i k }
 {
     let leg = net.leg(i, k)?;
     let window = window_at(net, leg.head);
@@ -21,9 +21,9 @@ pub fn step_along<N: Network>(net: &N, i: u16, k: u16) -> Result<Step, NetworkFa
 
 /// The same of a leg that is there.
 pub fn step_at<N: Network>(net: &N, i: u16, k: u16) -> Step
-    requires node { i < (meaning net.now).n }
-    requires within { k < length (legs_at (meaning net.now) i) }
-    ensures { result ≡ step_of (meaning net.now) (slice_index_or (legs_at (meaning net.now) i) k no_leg) }
+    requires node { i < (N.meaning net.now).n }
+    requires within { k < length (legs_at (N.meaning net.now) i) }
+    ensures { result ≡ step_of (N.meaning net.now) (slice_index_or (legs_at (N.meaning net.now) i) k no_leg) }
 {
     let leg = leg_at(net, i, k);
     let window = window_at(net, leg.head);

@@ -1,3 +1,5 @@
 //! Paths through a network: their stops, and what a label is told along them.
+#![tactic(auto)]
+
 pub mod asking;
 pub mod stop;

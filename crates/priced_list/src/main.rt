@@ -1,5 +1,7 @@
 //! Lists the network of an image that is read from standard input, with the price 5 at node 2, and without the legs from
 //! node 1 to node 3.
+#![tactic(auto)]
+
 use image::source::ImageSource;
 use layers::bars::Bars;
 use layers::fault::LayerFault;

@@ -3,6 +3,8 @@
 //! A source is a type that implements `Network`. Its `meaning` says which network a value stands for, and its `lawful`
 //! proves that this network keeps the limits; what that proof needs to know of a value stands in a ghost field. Each
 //! question is then held to the meaning.
+#![tactic(auto)]
+
 ghost use Rattle.std.specs.Prelude.{◌≡◌, ◌<◌, Ok, MatchOption};
 ghost use Rattle.network.specs.Answers.{if_node};
 ghost use Rattle.network.specs.Refusals.{told};

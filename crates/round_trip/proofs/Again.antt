@@ -1,13 +1,12 @@
 -- The image of an opened image's network is that image, where every row can be read.
-use Rattle.std.proofs.Common.{◌≡◌, ℕ, ◌+◌, ◌<◌, ◌≤◌, leb, List, length, Some, None, Option, Result, sym, refl, ap, ◌∙◌, arith}
+use Rattle.std.proofs.Common.{◌≡◌, ℕ, leb, List, length, Some, None, Option, sym, refl, ap, ◌∙◌}
 use Rattle.std.specs.Option.{option_or}
 use Rattle.network.specs.First.{unless, first_of}
-use Rattle.network.specs.Meaning.{Net, legs_at}
-use Rattle.network.specs.Lawful.{Lawful}
+use Rattle.network.specs.Meaning.{legs_at}
 use Rattle.network.specs.Refusals.{NetworkRefusal, unreadable}
 use Rattle.network.proofs.Firsts.{first_each, first_none, none_from}
 use Rattle.blocks.specs.Numbers.{Bytes}
-use Rattle.image_format.specs.Layout.{nodes_in, most_cost}
+use Rattle.image_format.specs.Layout.{nodes_in}
 use Rattle.image_format.specs.Judge.{judge, Sound}
 use Rattle.image_format.specs.Decode.{image_net}
 use Rattle.image_format.specs.Encode.{encoded, encoded_size}
@@ -15,7 +14,7 @@ use Rattle.image_format.specs.RoundTrip.{Readable}
 use Rattle.image_format.proofs.Again.{read_is_written_lem}
 use Rattle.image_format.proofs.Back.{encoded_long}
 use Rattle.image_format.proofs.Lawfuls.{image_lawful}
-use Rattle.image_writer.specs.Write.{unread_at, dear_at, no_room, cost_too_large, holds_legs, write_fault, answer_by, bytes_by, write_answer, written}
+use Rattle.image_writer.specs.Write.{unread_at, dear_at, no_room, cost_too_large, write_fault, answer_by, bytes_by, write_answer, written}
 use Rattle.image_writer.proofs.Steps.{unmapped}
 use Rattle.image_writer.proofs.Sure.{holds_all}
 use Rattle.round_trip.specs.Rewrite.{rewrite_fault, rewrite_answer, rewritten}

@@ -2,7 +2,6 @@
 use Rattle.std.specs.Prelude.{ℕ, List, length, Option, Result, nat_le}
 use Rattle.std.specs.Option.{option_or}
 use Rattle.network.specs.First.{unless, first_of}
-use Rattle.network.specs.Meaning.{Net}
 use Rattle.network.specs.Refusals.{NetworkRefusal}
 use Rattle.image_format.specs.Layout.{nodes_in}
 use Rattle.image_format.specs.Decode.{image_net}

@@ -1,4 +1,6 @@
 //! The round trips of images, as calls.
+#![tactic(auto)]
+
 ghost use Rattle.std.specs.Prelude.{◌≡◌, MatchResult};
 ghost use Rattle.network.specs.Meaning.{Same};
 ghost use Rattle.image_format.specs.Decode.{image_net};
@@ -25,8 +27,8 @@ pub fn copy<'a, N: Network>(
     out: &'a mut [u8],
     source: &mut ImageSource<'a>,
 ) -> Result<usize, WriteFault>
-    ensures answer { told_write result ≡ write_answer (meaning net.now) out.old }
-    ensures copy { MatchResult result (λ _. Same (image_net source.new.image.now) (meaning net.now)) (λ _. source.new ≡ source.old) }
+    ensures answer { told_write result ≡ write_answer (N.meaning net.now) out.old }
+    ensures copy { MatchResult result (λ _. Same (image_net source.new.image.now) (N.meaning net.now)) (λ _. source.new ≡ source.old) }
 {
     let size = write(net, out)?;
     match source.open(&out[0..size]) {

@@ -1,4 +1,6 @@
 //! Tables by example: a network of four stops, and tables with each fault.
+#![tactic(auto)]
+
 use network::fault::{FileFault, FilePart};
 use network::leg::Leg;
 use tables::record::NodeRecord;

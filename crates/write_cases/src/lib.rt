@@ -1,4 +1,6 @@
 //! Tests of writing by example: what is written, what is refused, and what a buffer holds then.
+#![tactic(auto)]
+
 #[cfg(test)]
 mod tests {
     use image::source::ImageSource;

@@ -4,8 +4,8 @@ use Rattle.agendas.specs.Heaps.{at, up}
 use Rattle.agendas.proofs.Steps.{rise_step, rise_ends, swap_at, swap_same}
 use Rattle.agendas.proofs.heap.rise.Goals as goal
 
-pub returns-then-not-is-sooner : goal.returns-then-not-is-sooner
-returns-then-not-is-sooner c =
+pub returns-then-not-is_sooner : goal.returns-then-not-is_sooner
+returns-then-not-is_sooner c =
     let t = c.loop-i.t in
     let i = c.loop-i.i in
     let n = c.args.n in

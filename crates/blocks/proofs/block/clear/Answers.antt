@@ -1,4 +1,4 @@
-use Rattle.std.proofs.Common.{◌≡◌, ℕ, ◌+◌, ◌-◌, ◌<◌, List, [], ◌∷◌, ◌++◌, length, take, set, replicate, sym, ap, ◌∙◌, arith}
+use Rattle.std.proofs.Common.{◌≡◌, ℕ, ◌+◌, ◌-◌, ◌<◌, List, [], ◌∷◌, ◌++◌, length, take, set, replicate, ap, ◌∙◌, arith}
 use Rattle.std.proofs.lemmas.List.{take_more_set, replicate_more, append_assoc}
 use Rattle.blocks.proofs.block.clear.Goals as goal
 

@@ -1,5 +1,5 @@
-use Rattle.std.proofs.Common.{arith, rules}
-use Rattle.blocks.proofs.Overs.{finished_is, length_over}
+use Rattle.std.proofs.Common.{rules}
+use Rattle.blocks.proofs.Overs.{finished_is}
 use Rattle.blocks.proofs.block.finish.Goals as goal
 
 pub returns : goal.returns

@@ -1,4 +1,4 @@
-use Rattle.std.proofs.Common.{◌≡◌, ℕ, ◌+◌, ◌-◌, ◌<◌, Some, None, Option, sym, ap, ◌∙◌, arith, rules}
+use Rattle.std.proofs.Common.{◌≡◌, ℕ, ◌+◌, ◌-◌, Some, None, Option, sym, ap, ◌∙◌, arith, rules}
 use Rattle.network.specs.declared.fault.FileFault.{FileFault}
 use Rattle.blocks.specs.Blocks.{byte_fault, unused_fault}
 use Rattle.network.specs.Refusals.{fault}

@@ -1,11 +1,11 @@
-use Rattle.std.proofs.Common.{◌≡◌, ℕ, ◌+◌, ◌*◌, ◌%◌, ◌<◌, ◌≤◌, length, get_or, take, ap, ◌∙◌, arith, rules}
+use Rattle.std.proofs.Common.{◌≡◌, ℕ, ◌+◌, ◌%◌, ◌<◌, ◌≤◌, length, get_or, take, ap, ◌∙◌, arith, rules}
 use Rattle.std.proofs.lemmas.Nat.{mul-le}
 use Rattle.blocks.specs.Numbers.{plain_sum, weighted_sum, plain_check, weighted_check}
 use Rattle.blocks.proofs.Sums.{plain_sum_more, weighted_sum_more}
 use Rattle.blocks.proofs.check.check_of.Goals as goal
 
-pub overflow-add-weighted-in-loop-i : goal.overflow-add-weighted-in-loop-i
-overflow-add-weighted-in-loop-i c =
+pub overflow_add-weighted-in-loop-i : goal.overflow_add-weighted-in-loop-i
+overflow_add-weighted-in-loop-i c =
     let b : get_or c.args.block.now c.loop-i.i 0 ≤ 255 = search rules in
     let i : c.loop-i.i + 1 ≤ 508 = omega arith in
     let m = mul-le _ _ _ _ i b in

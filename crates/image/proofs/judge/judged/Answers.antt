@@ -6,17 +6,17 @@ pub returns-then-len-eq0 : goal.returns-then-len-eq0
 unfolding judge
 returns-then-len-eq0 c = search rules
 
-pub returns-in-err-frame : goal.returns-in-err-frame
+pub returns-in_err-frame : goal.returns-in_err-frame
 unfolding judge
-returns-in-err-frame c = search rules
+returns-in_err-frame c = search rules
 
-pub returns-in-err-header : goal.returns-in-err-header
+pub returns-in_err-header : goal.returns-in_err-header
 unfolding judge
-returns-in-err-header c = search rules
+returns-in_err-header c = search rules
 
-pub returns-then-len-image-len : goal.returns-then-len-image-len
+pub returns-then-len-image_len : goal.returns-then-len-image_len
 unfolding judge
-returns-then-len-image-len c = search rules
+returns-then-len-image_len c = search rules
 
 pub returns : goal.returns
 unfolding judge

@@ -2,9 +2,9 @@ use Rattle.std.proofs.Common.{rules}
 use Rattle.image_format.specs.Judge.{node_fault}
 use Rattle.image.proofs.judge.node_fault.Goals as goal
 
-pub returns-then-opens-gt-MAX-TIME : goal.returns-then-opens-gt-MAX-TIME
+pub returns-then-opens-gt-MAX_TIME : goal.returns-then-opens-gt-MAX_TIME
 unfolding node_fault
-returns-then-opens-gt-MAX-TIME c = search rules
+returns-then-opens-gt-MAX_TIME c = search rules
 
 pub returns-then-closes-opens : goal.returns-then-closes-opens
 unfolding node_fault

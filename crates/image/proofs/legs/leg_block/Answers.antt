@@ -2,13 +2,13 @@ use Rattle.std.proofs.Common.{rules}
 use Rattle.image_format.specs.Judge.{leg_block_fault}
 use Rattle.image.proofs.legs.leg_block.Goals as goal
 
-pub returns-in-err-frame : goal.returns-in-err-frame
+pub returns-in_err-frame : goal.returns-in_err-frame
 unfolding leg_block_fault
-returns-in-err-frame c = search rules
+returns-in_err-frame c = search rules
 
-pub returns-in-err-leg-records : goal.returns-in-err-leg-records
+pub returns-in_err-leg_records : goal.returns-in_err-leg_records
 unfolding leg_block_fault
-returns-in-err-leg-records c = search rules
+returns-in_err-leg_records c = search rules
 
 pub returns : goal.returns
 unfolding leg_block_fault

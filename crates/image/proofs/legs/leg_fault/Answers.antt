@@ -14,9 +14,9 @@ pub returns-then-duration-lt1 : goal.returns-then-duration-lt1
 unfolding leg_fault
 returns-then-duration-lt1 c = search rules
 
-pub returns-then-unsigned-abs-gt-MAX-COST : goal.returns-then-unsigned-abs-gt-MAX-COST
+pub returns-then-unsigned_abs-gt-MAX_COST : goal.returns-then-unsigned_abs-gt-MAX_COST
 unfolding leg_fault
-returns-then-unsigned-abs-gt-MAX-COST c = search rules
+returns-then-unsigned_abs-gt-MAX_COST c = search rules
 
 pub returns : goal.returns
 unfolding leg_fault

@@ -1,6 +1,5 @@
-use Rattle.std.proofs.Common.{◌≡◌, ℕ, ◌+◌, ◌*◌, ◌<◌, ◌≤◌, List, length, get_or, sym, refl, ap, ◌∙◌, subst, arith}
-use Rattle.network.specs.Meaning.{Net, legs_at, all_legs, no_leg}
-use Rattle.network.specs.declared.leg.Leg.{Leg}
+use Rattle.std.proofs.Common.{◌≡◌, ℕ, ◌+◌, ◌*◌, ◌<◌, length, get_or, sym, refl, ap, ◌∙◌, subst, arith}
+use Rattle.network.specs.Meaning.{legs_at, all_legs, no_leg}
 use Rattle.blocks.specs.Blocks.{start_bytes}
 use Rattle.blocks.specs.Tables.{blocks_for}
 use Rattle.image_format.specs.Encode.{leg_bytes, leg_bytes_at, leg_count, first_of_node}
@@ -19,9 +18,9 @@ loop-r-preserved g c =
     let h : node < N.n = c.settled-here.ensures.node in
     let v : leg < length (legs_at N node) = c.settled-here.ensures.leg in
     let e : first_of_node N node + leg ≡ 42 * k + r = c.settled-here.ensures.place ∙ c.loop-r.invariant.1.place_is in
-    let t : leg_bytes c.leg_at_lem.result ≡ leg_bytes_at N (42 * k + r) =
-    ap leg_bytes (c.leg_at_lem.ensures ∙ sym (pile_item (legs_at N) N.n node leg no_leg h v) ∙ ap (λ (j : ℕ). get_or (all_legs N) j no_leg) e) in (
-      record_more (start_bytes 3 c.args.b) c.loop-r.block c.put-leg.new.block (leg_bytes c.leg_at_lem.result) (λ r. leg_bytes_at N (42 * k + r)) r (omega arith) (omega arith) refl t c.put-leg.ensures c.loop-r.invariant.0,
+    let t : leg_bytes c.leg_at.result ≡ leg_bytes_at N (42 * k + r) =
+    ap leg_bytes (c.leg_at.ensures ∙ sym (pile_item (legs_at N) N.n node leg no_leg h v) ∙ ap (λ (j : ℕ). get_or (all_legs N) j no_leg) e) in (
+      record_more (start_bytes 3 c.args.b) c.loop-r.block c.put_leg.new.block (leg_bytes c.leg_at.result) (λ r. leg_bytes_at N (42 * k + r)) r (omega arith) (omega arith) refl t c.put_leg.ensures c.loop-r.invariant.0,
       record { node_in = h; leg_in = omega arith; place_is = omega arith },
     )
 

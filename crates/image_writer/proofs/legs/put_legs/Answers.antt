@@ -1,9 +1,8 @@
-use Rattle.std.proofs.Common.{◌≡◌, ℕ, ◌+◌, ◌-◌, ◌*◌, ◌/◌, ◌<◌, ◌≤◌, min, List, [], length, sym, refl, ap, ◌∙◌, subst, arith}
-use Rattle.network.specs.Meaning.{Net}
+use Rattle.std.proofs.Common.{◌≡◌, ℕ, ◌+◌, ◌*◌, ◌≤◌, min, ap, ◌∙◌, subst, arith}
 use Rattle.network.specs.Pile.{pile}
 use Rattle.blocks.specs.Tables.{blocks_for}
 use Rattle.image_writer.specs.Write.{leg_block_of}
-use Rattle.image_format.specs.Encode.{leg_count, first_of_node}
+use Rattle.image_format.specs.Encode.{leg_count}
 use Rattle.image_writer.proofs.Steps.{leg_blocks_length}
 use Rattle.blocks.specs.Over.{over}
 use Rattle.image_writer.specs.Write.{Standing}
@@ -17,8 +16,8 @@ loop-k-init g c =
     let w = g.N.Network.lawful c.args.net.now in
     (over_none c.args.out.now _, record { node_in = w.some; leg_in = omega arith; place_is = omega arith })
 
-pub overflow-cast-b : goal.overflow-cast-b
-overflow-cast-b g c =
+pub overflow_cast-b : goal.overflow_cast-b
+overflow_cast-b g c =
     let N = g.N.Network.meaning c.args.net.now in
     let w = g.N.Network.lawful c.args.net.now in
     let a : N.n ≤ 1000 = w.many in
@@ -29,11 +28,11 @@ pub loop-k-preserved : goal.loop-k-preserved
 loop-k-preserved g c =
     let N = g.N.Network.meaning c.args.net.now in
     let k : ℕ = c.loop-k.k in
-    let n : c.node-count.result ≡ N.n = c.node-count.ensures in
+    let n : c.node_count.result ≡ N.n = c.node_count.ensures in
     let m : c.args.m ≡ leg_count N = c.requires.counted in
-    let a : 42 * k + c.in-block-count.result ≡ min (42 * (k + 1)) (leg_count N) = omega arith in (
-      block_more c.args.out.now c.loop-k.out c.put-leg-block-place.new.block (leg_block_of N) (512 * (1 + blocks_for 42 N.n)) _ k _ (omega arith) (omega arith) (omega arith) (omega arith) c.put-leg-block-place.ensures.bytes (leg_blocks_length N k) c.loop-k.invariant.0,
-      subst (λ (z : ℕ). Standing N c.put-leg-block-place.result.node c.put-leg-block-place.result.leg z) a c.put-leg-block-place.ensures.next,
+    let a : 42 * k + c.in_block-count.result ≡ min (42 * (k + 1)) (leg_count N) = omega arith in (
+      block_more c.args.out.now c.loop-k.out c.put_leg_block-place.new.block (leg_block_of N) (512 * (1 + blocks_for 42 N.n)) _ k _ (omega arith) (omega arith) (omega arith) (omega arith) c.put_leg_block-place.ensures.bytes (leg_blocks_length N k) c.loop-k.invariant.0,
+      subst (λ (z : ℕ). Standing N c.put_leg_block-place.result.node c.put_leg_block-place.result.leg z) a c.put_leg_block-place.ensures.next,
     )
 
 pub returns : goal.returns

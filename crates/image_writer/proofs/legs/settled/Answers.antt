@@ -1,5 +1,4 @@
-use Rattle.std.proofs.Common.{◌≡◌, ℕ, ◌+◌, ◌<◌, ◌≤◌, sym, refl, ap, ◌∙◌, arith}
-use Rattle.network.specs.Meaning.{Net}
+use Rattle.std.proofs.Common.{arith}
 use Rattle.image_writer.proofs.Steps.{next_row}
 use Rattle.image_writer.proofs.legs.settled.Goals as goal
 

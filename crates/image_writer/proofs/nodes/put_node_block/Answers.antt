@@ -1,5 +1,4 @@
-use Rattle.std.proofs.Common.{◌≡◌, ℕ, ◌+◌, ◌*◌, ◌<◌, ◌≤◌, List, length, sym, refl, ap, ◌∙◌, add-zero, arith}
-use Rattle.network.specs.Meaning.{Net, legs_at}
+use Rattle.std.proofs.Common.{◌≡◌, ℕ, ◌+◌, ◌*◌, ◌<◌, refl, ap, ◌∙◌, arith}
 use Rattle.network.specs.declared.leg.Window.{Window}
 use Rattle.blocks.specs.Blocks.{start_bytes}
 use Rattle.image_format.specs.Encode.{node_bytes, node_bytes_at, first_of_node}
@@ -7,8 +6,8 @@ use Rattle.image_format.proofs.Back.{first_next}
 use Rattle.image_writer.proofs.Steps.{total_fits, record_more, record_block}
 use Rattle.image_writer.proofs.nodes.put_node_block.Goals as goal
 
-pub overflow-add-next : goal.overflow-add-next
-overflow-add-next g c =
+pub overflow_add-next : goal.overflow_add-next
+overflow_add-next g c =
     let N = g.N.Network.meaning c.args.net.now in
     let i : ℕ = 42 * c.args.k + c.loop-r.r in
     let h : i < N.n = omega arith in
@@ -21,13 +20,13 @@ loop-r-preserved g c =
     let N = g.N.Network.meaning c.args.net.now in
     let i : ℕ = 42 * c.args.k + c.loop-r.r in
     let e : c.loop-r.next ≡ first_of_node N i = c.loop-r.invariant.1 in
-    let w = c.window-at-window.result in
-    let v : w ≡ N.window i = c.window-at-window.ensures in
+    let w = c.window_at-window.result in
+    let v : w ≡ N.window i = c.window_at-window.ensures in
     let t : node_bytes w.opens w.closes c.loop-r.next ≡ node_bytes_at N i =
     ap (λ (z : Window). node_bytes z.opens z.closes c.loop-r.next) v ∙ ap (λ (z : ℕ). node_bytes (N.window i).opens (N.window i).closes z) e in
     let n = first_next N i in
     let x : first_of_node N (42 * c.args.k + (c.loop-r.r + 1)) ≡ first_of_node N (i + 1) = ap (first_of_node N) {x = 42 * c.args.k + (c.loop-r.r + 1)} {y = i + 1} (omega arith) in (
-      record_more (start_bytes 2 (1 + c.args.k)) c.loop-r.block c.put-node.new.block _ (λ r. node_bytes_at N (42 * c.args.k + r)) c.loop-r.r (omega arith) (omega arith) refl t c.put-node.ensures c.loop-r.invariant.0,
+      record_more (start_bytes 2 (1 + c.args.k)) c.loop-r.block c.put_node.new.block _ (λ r. node_bytes_at N (42 * c.args.k + r)) c.loop-r.r (omega arith) (omega arith) refl t c.put_node.ensures c.loop-r.invariant.0,
       omega arith,
     )
 

@@ -1,5 +1,4 @@
-use Rattle.std.proofs.Common.{◌≡◌, ℕ, ◌+◌, ◌-◌, ◌*◌, ◌/◌, ◌<◌, ◌≤◌, min, List, [], length, sym, refl, ap, ◌∙◌, arith, rules}
-use Rattle.network.specs.Meaning.{Net}
+use Rattle.std.proofs.Common.{◌≡◌, ℕ, ◌+◌, ◌*◌, min, ap, ◌∙◌, arith}
 use Rattle.network.specs.Pile.{pile}
 use Rattle.blocks.specs.Tables.{blocks_for}
 use Rattle.image_writer.specs.Write.{node_block_of}
@@ -20,9 +19,9 @@ pub loop-k-preserved : goal.loop-k-preserved
 loop-k-preserved g c =
     let N = g.N.Network.meaning c.args.net.now in
     let k : ℕ = c.loop-k.k in
-    let a : 42 * k + c.in-block-count.result ≡ min (42 * (k + 1)) N.n = omega arith in (
-      block_more c.args.out.now c.loop-k.out c.put-node-block-first.new.block (node_block_of N) 512 (512 * k + 512) k _ (omega arith) (omega arith) (omega arith) (omega arith) c.put-node-block-first.ensures.bytes (node_blocks_length N k) c.loop-k.invariant.0,
-      c.put-node-block-first.ensures.next ∙ ap (first_of_node N) a,
+    let a : 42 * k + c.in_block-count.result ≡ min (42 * (k + 1)) N.n = omega arith in (
+      block_more c.args.out.now c.loop-k.out c.put_node_block-first.new.block (node_block_of N) 512 (512 * k + 512) k _ (omega arith) (omega arith) (omega arith) (omega arith) c.put_node_block-first.ensures.bytes (node_blocks_length N k) c.loop-k.invariant.0,
+      c.put_node_block-first.ensures.next ∙ ap (first_of_node N) a,
     )
 
 pub returns : goal.returns

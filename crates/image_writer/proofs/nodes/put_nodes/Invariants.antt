@@ -1,4 +1,4 @@
-use Rattle.std.proofs.Common.{◌≡◌, ◌+◌, ◌*◌, min}
+use Rattle.std.proofs.Common.{◌≡◌, ◌*◌, min}
 use Rattle.network.specs.Pile.{pile}
 use Rattle.image_writer.specs.Write.{node_block_of}
 use Rattle.image_format.specs.Encode.{first_of_node}

@@ -16,5 +16,5 @@ returns c =
     let f = grow d _ _ c.args.at (a ++ z) t (c.args.at + 4) e c.put32.ensures (omega arith) (omega arith) in
     let fits : SFits w32 l.cost = search rules in
     let out = c.put32.new.out in
-    let p : c.put-signed32.new.out ≡ over out (c.args.at + 8) (bytes_z l.cost) = c.put-signed32.ensures ∙ ap (λ (x : ℤ). over out (c.args.at + 8) (bytes_z x)) (to_z-of_z w32 l.cost fits) in
+    let p : c.put_signed32.new.out ≡ over out (c.args.at + 8) (bytes_z l.cost) = c.put_signed32.ensures ∙ ap (λ (x : ℤ). over out (c.args.at + 8) (bytes_z x)) (to_z-of_z w32 l.cost fits) in
     grow d _ _ c.args.at ((a ++ z) ++ t) (bytes_z l.cost) (c.args.at + 8) f p (omega arith) (omega arith)

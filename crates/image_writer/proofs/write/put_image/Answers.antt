@@ -1,6 +1,5 @@
-use Rattle.std.proofs.Common.{◌≡◌, ℕ, ◌+◌, ◌*◌, List, ◌++◌, length, sym, refl, ap, ◌∙◌, arith, length-append}
+use Rattle.std.proofs.Common.{◌≡◌, ℕ, ◌+◌, ◌*◌, List, ◌++◌, length, ap, ◌∙◌, arith, length-append}
 use Rattle.std.proofs.lemmas.List.{append_assoc}
-use Rattle.network.specs.Meaning.{Net}
 use Rattle.network.specs.Pile.{pile}
 use Rattle.blocks.specs.Tables.{blocks_for}
 use Rattle.image_format.specs.Encode.{header_block, leg_count, encoded}
@@ -25,6 +24,6 @@ returns g c =
     let lp : length P ≡ 512 * a = node_blocks_length N a in
     let ll : length L ≡ 512 * b = leg_blocks_length N b in
     let lhp : length (H ++ P) ≡ length H + length P = length-append H P in
-    let x = grow d c.put-top.new.out c.put-nodes.new.out 0 H P 512 c.put-top.ensures c.put-nodes.ensures (omega arith) (omega arith) in
-    grow d c.put-nodes.new.out c.put-legs.new.out 0 (H ++ P) L (512 * (1 + a)) x c.put-legs.ensures (omega arith) (omega arith)
+    let x = grow d c.put_top.new.out c.put_nodes.new.out 0 H P 512 c.put_top.ensures c.put_nodes.ensures (omega arith) (omega arith) in
+    grow d c.put_nodes.new.out c.put_legs.new.out 0 (H ++ P) L (512 * (1 + a)) x c.put_legs.ensures (omega arith) (omega arith)
     ∙ ap (over d 0) (append_assoc H P L)

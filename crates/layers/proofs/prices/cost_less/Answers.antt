@@ -12,7 +12,7 @@ pub returns : goal.returns
 returns c =
     let cost = to_z-of_z w32 c.args.cost c.ranges.cost in
     let price = to_z-of_z w32 c.args.price c.ranges.price in
-    let less = c.saturating-sub.ensures ∙ ap (λ (x : ℤ). saturate_to_bits 31 (x -ℤ to_z w32 (of_z w32 c.args.price))) cost ∙ ap (λ (x : ℤ). saturate_to_bits 31 (c.args.cost -ℤ x)) price in
-    to_z-of_z w32 c.clamp.result (record { sfits = c.clamp.type-inv })
+    let less = c.saturating_sub.ensures ∙ ap (λ (x : ℤ). saturate_to_bits 31 (x -ℤ to_z w32 (of_z w32 c.args.price))) cost ∙ ap (λ (x : ℤ). saturate_to_bits 31 (c.args.cost -ℤ x)) price in
+    to_z-of_z w32 c.clamp.result (record { sfits = c.clamp.type_inv })
     ∙ cut_clamped c.args.reach (c.args.cost -ℤ c.args.price) _ _ _ c.clamp.result c.requires (low_end c.args.reach c.requires) (to_z_pos w32 c.args.reach (omega arith))
-    (to_z-of_z w32 c.saturating-sub.result (record { sfits = c.saturating-sub.type-inv }) ∙ less) c.clamp.ensures.value
+    (to_z-of_z w32 c.saturating_sub.result (record { sfits = c.saturating_sub.type_inv }) ∙ less) c.clamp.ensures.value

@@ -7,7 +7,7 @@ use Rattle.tables.proofs.open.largest_size.Goals as goal
 pub loop-leg-preserved : goal.loop-leg-preserved
 loop-leg-preserved c =
     let e = at_drop_more largest_size c.args.legs.now c.loop-leg.leg-index no_leg c.loop-leg-test.true in
-    let size : c.unsigned-abs.result ≡ nat_abs (leg_at c.args.legs.now c.loop-leg.leg-index).cost = search rules in
+    let size : c.unsigned_abs.result ≡ nat_abs (leg_at c.args.legs.now c.loop-leg.leg-index).cost = search rules in
     omega arith
 
 pub returns : goal.returns

@@ -7,8 +7,8 @@ use Rattle.agendas.proofs.Counts.{one_more_push}
 use Rattle.agendas.proofs.first_in.FirstInAgenda.put.Goals as goal
 use Rattle.agendas.proofs.first_in.FirstInAgenda.put.Goals.{then-self-ahead, else-self-ahead}
 
-pub returns-then-self-capacity-of : goal.returns-then-self-capacity-of
-returns-then-self-capacity-of c =
+pub returns-then-self-capacity_of : goal.returns-then-self-capacity_of
+returns-then-self-capacity_of c =
     let s = c.args.self.now in
     let l = length-ring s.table.now s.first s.count (omega arith) in
     record { says = (refl, omega arith, refl); room = refl; order = refl }

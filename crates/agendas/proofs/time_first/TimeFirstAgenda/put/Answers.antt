@@ -5,8 +5,8 @@ use Rattle.agendas.specs.Timeds.{timed, JoinedBy}
 use Rattle.agendas.proofs.Piles.{length-entries, one_more_from, one_more_numbers}
 use Rattle.agendas.proofs.time_first.TimeFirstAgenda.put.Goals as goal
 
-pub returns-then-self-capacity-of : goal.returns-then-self-capacity-of
-returns-then-self-capacity-of c =
+pub returns-then-self-capacity_of : goal.returns-then-self-capacity_of
+returns-then-self-capacity_of c =
     let s = c.args.self.now in
     let l = length-entries s.front.table.now s.front.count (omega arith) in
     record { says = (refl, omega arith, refl); room = refl; order = refl }

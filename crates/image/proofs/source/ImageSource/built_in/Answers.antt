@@ -7,9 +7,9 @@ use Rattle.image_format.specs.Decode.{span_fault}
 use Rattle.image.proofs.Marking.{unmarked}
 use Rattle.image.proofs.source.ImageSource.built_in.Goals as goal
 
-pub invariant-of-result : goal.invariant-of-result
+pub invariant_of-result : goal.invariant_of-result
 unfolding judge block_of record_of record_at unused_fault node_block_fault node_fault plain_check weighted_check
-invariant-of-result c = (refl, (c.are-bytes.ensures, (λ k e. unmarked 477 k e, tt)))
+invariant_of-result c = record { sound = refl; bytes = c.are_bytes.ensures; marked = λ k e. unmarked 477 k e }
 
 at_zero : (P : ℕ → Type 0) → P 0 → (i : ℕ) → i < 1 → P i
 at_zero P p zero h = p

@@ -1,4 +1,4 @@
-use Rattle.std.proofs.Common.{arith, rules}
+use Rattle.std.proofs.Common.{arith}
 use Rattle.image_format.proofs.Sounds.{sound_facts}
 use Rattle.image.proofs.source.ImageSource.leg_block.Goals as goal
 

@@ -10,7 +10,7 @@ returns g c =
     let m = g.N.Network.meaning s.below in
     let q : ℤ = to_z w32 (of_z w32 c.args.price) in
     let e : q ≡ c.args.price = to_z-of_z w32 c.args.price c.ranges.price in
-    let a : acceptable m.reach q ≡ true = ap (λ r. acceptable r q) (sym c.reach.ensures) ∙ sym c.if-not-is-acceptable.ensures in
+    let a : acceptable m.reach q ≡ true = ap (λ r. acceptable r q) (sym c.reach.ensures) ∙ sym c.if-not-is_acceptable.ensures in
     let h : c.args.node < m.n = omega arith in
     record {
       step = price_set m s.prices c.args.node c.args.price q h e a;

@@ -7,4 +7,4 @@ pub returns : goal.returns
 returns g c =
     let s = c.args.self.now.layer in
     let m = g.N.Network.meaning s.below in
-    c.row-len.ensures ∙ sym (length_mapped (λ i. priced_leg (priced_reach m.reach) (price_of s.prices i)) (priced_reach m.reach) m c.args.i)
+    c.row_len.ensures ∙ sym (length_mapped (λ i. priced_leg (priced_reach m.reach) (price_of s.prices i)) (priced_reach m.reach) m c.args.i)
