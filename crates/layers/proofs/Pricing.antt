@@ -2,7 +2,7 @@
 use Rattle.std.proofs.Common.{◌≡◌, ℕ, ◌+◌, ◌<◌, ◌≤◌, true, ltb, leb, List, [], ◌∷◌, map, length, set, replicate, ℤ, pos, negsuc, ◌-ℤ◌, neg_ℤ, nat_abs, Ok, Err, sym, refl, ap, ◌∙◌, ⊎_elim, arith}
 use Rattle.std.specs.Result.{result_map_both}
 use Rattle.std.specs.Int.{int_max, int_min, saturate_to_bits}
-use Rattle.std.specs.List.{AllByRecursion as All}
+use Rattle.std.specs.List.{AllByRecursion}
 use Rattle.std.proofs.ByRecursion.{All-from_get_or, All-weaker}
 use Rattle.std.proofs.lemmas.List.{get_or-replicate, get_or_past, get_or-set_same, get_or-set_other, set_past, length-replicate}
 use Rattle.std.proofs.lemmas.Int.{ints}
@@ -68,11 +68,11 @@ leg_exact n reach price l a h =
     let w = h.in_reach in
     ap (λ z. with_cost z l) (cut_none (priced_reach reach) (l.cost -ℤ price) (omega arith))
 
-map_same : (f g : Leg → Leg) (ls : List Leg) → All (λ l. f l ≡ g l) ls → map f ls ≡ map g ls
+map_same : (f g : Leg → Leg) (ls : List Leg) → AllByRecursion (λ l. f l ≡ g l) ls → map f ls ≡ map g ls
 map_same f g [] h = refl
 map_same f g (l ∷ ls) h = ap (λ x. x ∷ map f ls) h.0 ∙ ap (λ x. g l ∷ x) (map_same f g ls h.1)
 
-row_exact : (f g : Leg → Leg) (row : Row) → All (λ l. f l ≡ g l) (legs_of row) → on_legs (map f) row ≡ on_legs (map g) row
+row_exact : (f g : Leg → Leg) (row : Row) → AllByRecursion (λ l. f l ≡ g l) (legs_of row) → on_legs (map f) row ≡ on_legs (map g) row
 row_exact f g (legs_row ls) h = ap legs_row (map_same f g ls h)
 row_exact f g (unreadable_row e) h = refl
 

@@ -1,7 +1,7 @@
 -- A layer is lawful where no row grows and each leg stays lawful.
 use Rattle.std.specs.Prelude.{ℕ, zero, suc, ◌≤◌, List, length}
 use Rattle.std.proofs.Common.{arith, length-append}
-use Rattle.std.specs.List.{AllByRecursion as All}
+use Rattle.std.specs.List.{AllByRecursion}
 use Rattle.std.proofs.ByRecursion.{All-get_or, All-from_get_or}
 use Rattle.network.specs.Lawful.{Lawful, LawfulLeg}
 use Rattle.network.specs.Limits.{most_reach}
@@ -23,11 +23,11 @@ row_shrinks : (f : List Leg → List Leg) (row : Row) → ((ls : List Leg) → l
 row_shrinks f (legs_row ls) h = h ls
 row_shrinks f (unreadable_row e) h = omega arith
 
-row_keeps : (f : List Leg → List Leg) (row : Row) (P Q : Leg → Type 0) → ((ls : List Leg) → All P ls → All Q (f ls)) → All P (legs_of row) → All Q (legs_of (on_legs f row))
+row_keeps : (f : List Leg → List Leg) (row : Row) (P Q : Leg → Type 0) → ((ls : List Leg) → AllByRecursion P ls → AllByRecursion Q (f ls)) → AllByRecursion P (legs_of row) → AllByRecursion Q (legs_of (on_legs f row))
 row_keeps f (legs_row ls) P Q h all = h ls all
 row_keeps f (unreadable_row e) P Q h all = tt
 
-pub layered_lawful : (f : ℕ → List Leg → List Leg) (reach : ℕ) (m : Net) → reach ≤ most_reach → ((i : ℕ) (ls : List Leg) → length (f i ls) ≤ length ls) → ((i : ℕ) (ls : List Leg) → All (LawfulLeg m.n m.reach) ls → All (LawfulLeg m.n reach) (f i ls)) → Lawful m → Lawful (layered f reach m)
+pub layered_lawful : (f : ℕ → List Leg → List Leg) (reach : ℕ) (m : Net) → reach ≤ most_reach → ((i : ℕ) (ls : List Leg) → length (f i ls) ≤ length ls) → ((i : ℕ) (ls : List Leg) → AllByRecursion (LawfulLeg m.n m.reach) ls → AllByRecursion (LawfulLeg m.n reach) (f i ls)) → Lawful m → Lawful (layered f reach m)
 layered_lawful f reach m near shrinks keeps h = record {
   some = h.some;
   many = h.many;
