@@ -7,7 +7,10 @@ root=$(cd "$(dirname "$0")/../.." && pwd)
 work=$(mktemp -d)
 trap 'rm -rf "$work"' EXIT
 mkdir -p "$work/crates/priced_sealed/src"
-cp -r "$root/crates/network" "$root/crates/layers" "$work/crates"
+for crate in network layers; do
+    mkdir "$work/crates/$crate"
+    cp -r "$root/crates/$crate/src" "$root/crates/$crate/specs" "$root/crates/$crate/proofs" "$work/crates/$crate"
+done
 cd "$work"
 cat > crates.txt <<'CRATES'
 network:
@@ -16,6 +19,8 @@ priced_sealed: network layers
 CRATES
 cat > crates/priced_sealed/src/lib.rt <<'PROGRAM'
 //! Prices a network that is sealed.
+#![tactic(auto)]
+
 use layers::draft::Sealed;
 use layers::fault::LayerFault;
 use layers::prices::Prices;
@@ -25,6 +30,6 @@ pub fn reprice<N: Network>(net: &mut Sealed<Prices<N>>) -> Result<(), LayerFault
     net.price(2, 5)
 }
 PROGRAM
-rt dev priced_sealed > told.txt 2>&1 || true
-grep 'priced_sealed/src/lib.rt' told.txt | sed "s|$work/||"
+(cd crates/priced_sealed && rt check) > told.txt 2>&1 || true
+grep "^src/lib.rt" told.txt
 grep -q 'error\[unknown-method\]: no method named `price`' told.txt

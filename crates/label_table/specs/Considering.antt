@@ -9,7 +9,7 @@ use Rattle.paths.specs.Paths.{step_of}
 use Rattle.label_table.specs.declared.row.Row.{Row}
 use Rattle.label_table.specs.declared.fault.RunFault.{RunFault}
 use Rattle.label_table.specs.Refusals.{RunRefusal, run_refusal, refused}
-use Rattle.label_table.specs.Rows.{any, standsOver, fresh, entering}
+use Rattle.label_table.specs.Rows.{any, stands_over, fresh, entering}
 
 -- `more` is `less` with one each of the numbers from e up to e' more, in any order
 pub record Joined (less more : List ℕ) (e e' : ℕ) : Type 0 where
@@ -40,7 +40,7 @@ module _ {L : Type 0} (K : Kind L) (room : ℕ) where
   -- room to wait; else entered as number e
   abbrev pub considered : (e held : ℕ) → Row L → List (Row L) → Result Verdict RunRefusal × List (Row L)
   considered e held row rows =
-      cond (any (standsOver K row.node row.label) (take e rows)) (Ok Covered, rows)
+      cond (any (stands_over K row.node row.label) (take e rows)) (Ok Covered, rows)
       (cond (nat_lt e (length rows))
       (cond (nat_lt held room) (Ok Entered, entering K e row rows) (Err (refused 12 row.parent), rows))
       (Err (refused 17 row.parent), rows))

@@ -9,8 +9,8 @@ any p (x ∷ xs) = p x || any p xs
 
 module _ {L : Type 0} (K : Kind L) where
   -- r stands at j and covers l
-  abbrev pub standsOver : ℕ → L → Row L → Bool
-  standsOver j l r = r.stands && (r.node == j && K.covers r.label l)
+  abbrev pub stands_over : ℕ → L → Row L → Bool
+  stands_over j l r = r.stands && (r.node == j && K.covers r.label l)
 
   -- r is at j, and l covers it
   abbrev pub beaten : ℕ → L → Row L → Bool

@@ -15,7 +15,7 @@ use paths::asking::step_at;
 /// The standing entries at a node that a label covers cease to stand.
 fn unstand<L: Label>(table: &mut [Row<L>], entered: usize, node: u16, label: &L)
     requires { entered ≤ length table.old }
-    ensures { table.new ≡ map (lowered kind node label.now) (take entered table.old) ++ drop entered table.old }
+    ensures { table.new ≡ map (lowered L.kind node label.now) (take entered table.old) ++ drop entered table.old }
 {
     for i in 0..entered {
         table[i] = table[i].lowered(node, label);
@@ -30,8 +30,8 @@ fn enter<L: Label, A: Agenda>(
     row: Row<L>,
 ) -> Result<(), AgendaFault>
     requires { entered < length table.old }
-    ensures says { EnterSays kind result (limit agenda.old) entered row (bag agenda.old) table.old (bag agenda.new) table.new }
-    ensures room { limit agenda.new ≡ limit agenda.old }
+    ensures says { EnterSays L.kind result (A.limit agenda.old) entered row (A.bag agenda.old) table.old (A.bag agenda.new) table.new }
+    ensures room { A.limit agenda.new ≡ A.limit agenda.old }
 {
     agenda.put(entered, row.label.time(), row.label.cost())?;
     let at = entered as usize;
@@ -63,12 +63,12 @@ pub fn consider<N: Network, L: Label, A: Agenda>(
     requires some { 1 ≤ entered }
     requires fits { entered ≤ length table.old }
     requires short { length table.old < 2 ^ 16 }
-    requires node { node < (meaning net.now).n }
-    requires row { end ≤ length (legs_at (meaning net.now) node) }
-    ensures does { (result.entered, stop_in result.refusal, table.new) ≡ along (meaning net.now) kind (limit agenda.old) i from.now first (drop first (take end (legs_at (meaning net.now) node))) entered (length (bag agenda.old)) table.old }
-    ensures puts { Joined (bag agenda.old) (bag agenda.new) entered result.entered }
+    requires node { node < (N.meaning net.now).n }
+    requires row { end ≤ length (legs_at (N.meaning net.now) node) }
+    ensures does { (result.entered, stop_in result.refusal, table.new) ≡ along (N.meaning net.now) L.kind (A.limit agenda.old) i from.now first (drop first (take end (legs_at (N.meaning net.now) node))) entered (length (A.bag agenda.old)) table.old }
+    ensures puts { Joined (A.bag agenda.old) (A.bag agenda.new) entered result.entered }
     ensures within { (entered ≤ result.entered) × (result.entered ≤ length table.old) }
-    ensures keeps { limit agenda.new ≡ limit agenda.old }
+    ensures keeps { A.limit agenda.new ≡ A.limit agenda.old }
 {
     let mut entered = entered;
     let mut refusal = None;

@@ -1,6 +1,6 @@
 //! A row of the label table.
 ghost use Rattle.std.specs.Prelude.{◌≡◌};
-ghost use Rattle.label_table.specs.Rows.{standsOver, lowered, marked};
+ghost use Rattle.label_table.specs.Rows.{stands_over, lowered, marked};
 
 use labels::label::Label;
 
@@ -22,14 +22,14 @@ pub struct Row<L> {
 impl<L: Label> Row<L> {
     /// Whether it stands at a node and covers a label.
     pub fn stands_over(&self, node: u16, label: &L) -> bool
-        ensures { result ≡ standsOver kind node label.now self.now }
+        ensures { result ≡ stands_over L.kind node label.now self.now }
     {
         self.stands && self.node == node && self.label.covers(label)
     }
 
     /// The row once a label has entered at a node: it stands no more if it stood there and the label covers it.
     pub fn lowered(self, node: u16, label: &L) -> Row<L>
-        ensures { result ≡ lowered kind node label.now self }
+        ensures { result ≡ lowered L.kind node label.now self }
     {
         let beaten = self.node == node && label.covers(&self.label);
         Row {
