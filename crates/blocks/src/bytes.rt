@@ -7,9 +7,13 @@ ghost use Rattle.blocks.specs.Over.{over};
 pub fn are_bytes(s: &[u8])
     ensures { Bytes s.now }
 {
+    let mut read: usize = 0;
     for i in 0..s.len() {
         let _byte = s[i];
+        read += 1;
     }
+    // none is left out
+    prove!(read == s.len());
 }
 
 pub fn le16(s: &[u8], at: usize) -> u16
