@@ -23,13 +23,13 @@ stop_in (Some f) = Some (run_refusal f)
 
 -- what became of a label: it is covered, or it entered
 pub data Verdict : Type 0 where
-  Covered : Verdict
-  Entered : Verdict
+  covered : Verdict
+  entered : Verdict
 
 -- how many entries a verdict adds
 abbrev pub added : Verdict → ℕ
-added Covered = 0
-added Entered = 1
+added covered = 0
+added entered = 1
 
 abbrev pub counted : Result Verdict RunRefusal → Result ℕ RunRefusal
 counted (Ok v) = Ok (added v)
@@ -40,9 +40,9 @@ module _ {L : Type 0} (K : Kind L) (room : ℕ) where
   -- room to wait; else entered as number e
   abbrev pub considered : (e held : ℕ) → Row L → List (Row L) → Result Verdict RunRefusal × List (Row L)
   considered e held row rows =
-      cond (any (stands_over K row.node row.label) (take e rows)) (Ok Covered, rows)
+      cond (any (stands_over K row.node row.label) (take e rows)) (Ok covered, rows)
       (cond (nat_lt e (length rows))
-      (cond (nat_lt held room) (Ok Entered, entering K e row rows) (Err (refused 12 row.parent), rows))
+      (cond (nat_lt held room) (Ok entered, entering K e row rows) (Err (refused 12 row.parent), rows))
       (Err (refused 17 row.parent), rows))
 
   -- the label, if any, that leg k of entry i gave at node j: how many entries it adds
