@@ -3,7 +3,7 @@ ghost use Rattle.std.specs.Prelude.{◌≡◌, ℕ, ◌+◌, ◌<◌, ◌≤◌,
 ghost use Rattle.blocks.specs.Numbers.{Bytes, u16_at, u32_at, i32_at, bytes16, bytes32, bytes_z};
 ghost use Rattle.blocks.specs.Over.{over};
 
-/// Reads every byte: a proof knows only of what is read that it is below 256.
+/// Reads every byte: each is below 256, and none is left out.
 pub fn are_bytes(s: &[u8])
     ensures { Bytes s.now }
 {
@@ -12,7 +12,6 @@ pub fn are_bytes(s: &[u8])
         let _byte = s[i];
         read += 1;
     }
-    // none is left out
     prove!(read == s.len());
 }
 
