@@ -11,7 +11,7 @@ use Rattle.label_table.specs.declared.fault.RunFault.{RunFault}
 use Rattle.label_table.specs.Refusals.{RunRefusal, run_refusal, refused}
 use Rattle.label_table.specs.Rows.{any, stands_over, fresh, entering}
 
--- `more` is `less` with one each of the numbers from e up to e' more, in any order
+-- `more` is `less` with one each of the numbers from e up to before e' more, in any order
 pub record Joined (less more : List ℕ) (e e' : ℕ) : Type 0 where
   pub counts : (x : ℕ) → times x more ≡ times x less + cond (nat_le e x && nat_lt x e') 1 0
   pub len : length more + e ≡ length less + e'

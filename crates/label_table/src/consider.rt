@@ -47,7 +47,7 @@ pub struct Considered {
     pub refusal: Option<RunFault>,
 }
 
-/// Extends the label of entry `i`, at `node`, along its legs from `first` up to `end` in order, and considers each
+/// Extends the label of entry `i`, at `node`, along its legs from `first` up to before `end` in order, and considers each
 /// result: it is covered, or enters, or has no place; then the legs after it are left.
 pub fn consider<N: Network, L: Label, A: Agenda>(
     net: &N,

@@ -1,4 +1,4 @@
-//! The label table: its rows, how a label is considered, and what is read off the entries.
+//! The label table: its rows, and how labels are considered.
 #![tactic(auto)]
 
 pub mod consider;

@@ -13,7 +13,7 @@ pub struct Row<L> {
     pub parent: u16,
     pub leg: u16,
     pub label: L,
-    /// no later label has covered it
+    /// no later entry at its node covers it
     pub stands: bool,
     /// it was extended along the legs of its node
     pub treated: bool,
