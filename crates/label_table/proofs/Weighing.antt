@@ -79,7 +79,7 @@ module _ {L : Type 0} (N : Net) (K : Kind L) (room : ℕ) (i : ℕ) (l : L) (k e
       ∙ ap (λ z. weighed K room i k z (Some next) e held rows) (sym (ap (λ z. z.head) q))
       ∙ ap (λ z. (counted z.0, z.1)) c
 
-  -- where it is covered or enters, the legs after it are left
+  -- where it is covered or enters, the legs after it come next
   pub went_on : (e held e' held' : ℕ) (rows rows' : List (Row L)) (v : Verdict) → k < end → end ≤ length legs → s ≡ step_of N (get_or legs k no_leg) → Some next ≡ K.extend l s → considered K room e held (fresh s.head i k next) rows ≡ (Ok v, rows') → e + added v ≡ e' → held + added v ≡ held' → along N K room i l k (drop k (take end legs)) e held rows ≡ along N K room i l (k + 1) (drop (k + 1) (take end legs)) e' held' rows'
   went_on e held e' held' rows rows' v h n q x c p w =
       ap (λ z. along N K room i l k z e held rows) (next_leg legs k end h n)

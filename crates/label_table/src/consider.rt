@@ -48,7 +48,7 @@ pub struct Considered {
 }
 
 /// Extends the label of entry `i`, at `node`, along its legs from `first` up to before `end` in order, and considers each
-/// result: it is covered, or enters, or has no place; then the legs after it are left.
+/// result: it is covered, or enters, or has no place; then the legs after it are left out.
 pub fn consider<N: Network, L: Label, A: Agenda>(
     net: &N,
     table: &mut [Row<L>],
