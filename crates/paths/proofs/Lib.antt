@@ -1,1 +1,2 @@
 pub mod Legs
+mod Walking

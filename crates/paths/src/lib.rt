@@ -3,3 +3,4 @@
 
 pub mod asking;
 pub mod stop;
+pub mod walk;

@@ -1,0 +1,9 @@
+//! Parts of one's own: a kind of label that counts legs, and an agenda that takes the last entry.
+//!
+//! They are written as a reader of docs/labels.md and docs/agendas.md would write them.
+#![tactic(auto)]
+
+pub mod hops;
+pub mod last_in;
+#[cfg(test)]
+mod tests;
