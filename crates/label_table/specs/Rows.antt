@@ -1,11 +1,7 @@
 -- The rows of the label table.
-use Rattle.std.specs.Prelude.{ℕ, Bool, true, false, not, ◌&&◌, ◌||◌, List, [], ◌∷◌, ◌++◌, map, take, drop, ◌==◌, slice_set}
+use Rattle.std.specs.Prelude.{ℕ, Bool, true, false, not, ◌&&◌, List, ◌++◌, map, take, drop, ◌==◌, slice_set}
 use Rattle.labels.specs.Kinds.{Kind}
 use Rattle.label_table.specs.declared.row.Row.{Row}
-
-abbrev pub any : {X : Type 0} → (X → Bool) → List X → Bool
-any p [] = false
-any p (x ∷ xs) = p x || any p xs
 
 module _ {L : Type 0} (K : Kind L) where
   -- r stands at j and covers l

@@ -2,5 +2,7 @@
 #![tactic(auto)]
 
 pub mod consider;
+pub mod departure;
+pub mod entries;
 pub mod fault;
 pub mod row;
