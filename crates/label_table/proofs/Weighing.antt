@@ -1,46 +1,37 @@
 -- What comes of going along one leg more.
-use Rattle.std.proofs.Common.{◌≡◌, ℕ, zero, suc, ◌+◌, ◌<◌, ◌≤◌, Bool, true, false, ◌||◌, List, [], ◌∷◌, length, get_or, take, drop, Some, Ok, Err, Option, Result, sym, refl, ap, ◌∙◌, cond, leb, ltb, eqb, ◌&&◌, add-one, arith}
+use Rattle.std.proofs.Common.{◌≡◌, ℕ, suc, ◌+◌, ◌<◌, ◌≤◌, List, ◌∷◌, length, get_or, take, drop, Some, Ok, Err, Option, Result, sym, ap, ◌∙◌, cond, leb, ltb, ◌&&◌, add-one, arith}
 use Rattle.std.proofs.lemmas.Bool.Decides.{nat_tests}
-use Rattle.std.proofs.lemmas.Bool.{cond-true, cond-false, lt-ltb, le-ltb}
 use Rattle.std.proofs.Math.Seq.{drop-cons}
 use Rattle.std.proofs.lemmas.List.{get_or-take, length-take}
 use Rattle.std.specs.Result.{result_map_both}
 use Rattle.agendas.specs.Bags.{PutSays}
 use Rattle.agendas.specs.declared.fault.AgendaFault.{AgendaFault}
-use Rattle.std.specs.List.{list_any}
 use Rattle.network.specs.Meaning.{Net, legs_at, no_leg}
 use Rattle.network.specs.declared.leg.Leg.{Leg}
 use Rattle.labels.specs.Kinds.{Kind}
-use Rattle.labels.specs.declared.step.Step.{Step}
-use Rattle.paths.specs.Paths.{step_of}
-use Rattle.label_table.specs.declared.departure.Departure.{Departure}
-use Rattle.label_table.specs.declared.entries.Entries.{Entries}
+use Rattle.label_table.specs.declared.table.Departure.{Departure}
+use Rattle.label_table.specs.declared.table.LabelTable.{LabelTable}
 use Rattle.label_table.specs.declared.row.Row.{Row}
-use Rattle.label_table.specs.Refusals.{RunRefusal, refused}
-use Rattle.label_table.specs.Rows.{stands_over, fresh, entering}
-use Rattle.label_table.specs.Considering.{Joined, EntersMore, Verdict, covered, entered, added, considered, weighed, row_along, along}
-
--- the numbers from a up to before b, and those from b up to before c
-split : (a b c x : ℕ) → a ≤ b → b ≤ c → cond (leb a x && ltb x b) 1 0 + cond (leb b x && ltb x c) 1 0 ≡ cond (leb a x && ltb x c) 1 0
-split a b c x h k = grind (arith, nat_tests)
+use Rattle.label_table.specs.Refusals.{RunRefusal}
+use Rattle.label_table.specs.Considering.{Joined, EntersMore, Verdict, added, considered, row_along, along}
 
 -- an entry that was put waits
 pub put_joined : {F : Type 0} {less more : List ℕ} {e e' : ℕ} {u : Unit {0}} (f : AgendaFault → F) (limit : ℕ) (r : Result (Unit {0}) AgendaFault) → result_map_both (λ x. x) f r ≡ Ok u → PutSays r less more limit e → e' ≡ e + 1 → Joined less more e e'
 put_joined f limit (Ok u) q (room, o) h = record {
   counts = λ x. let one = o.counts x in grind (arith, nat_tests);
-  len = omega (arith, o.len);
+  len = omega arith;
 }
 put_joined f limit (Err a) q says h = cc
 
 -- one after the other
-pub more_still : {L : Type 0} {x y z : Entries L} {xs ys zs : List ℕ} → EntersMore x y xs ys → EntersMore y z ys zs → EntersMore x z xs zs
-more_still {x = x} {y = y} {z = z} p q = record {
+pub more_still : {L : Type 0} {x y z : LabelTable L} {xs ys zs : List ℕ} → EntersMore x y xs ys → EntersMore y z ys zs → EntersMore x z xs zs
+more_still p q = record {
   same_reference = q.same_reference ∙ p.same_reference;
   len = q.len ∙ p.len;
-  least = omega (arith, p.least, q.least);
+  least = omega arith;
   puts = record {
-    counts = λ n. let u = p.puts.counts n in let v = q.puts.counts n in let w = split x.entered y.entered z.entered n p.least q.least in omega (arith, u, v, w);
-    len = omega (arith, p.puts.len, q.puts.len);
+    counts = λ n. let u = p.puts.counts n in let v = q.puts.counts n in grind (arith, nat_tests);
+    len = omega arith;
   };
 }
 
@@ -48,7 +39,7 @@ more_still {x = x} {y = y} {z = z} p q = record {
 next_of : (legs : List Leg) (k end : ℕ) → k < end → end ≤ length legs → drop k (take end legs) ≡ get_or legs k no_leg ∷ drop (k + 1) (take end legs)
 next_of legs k end h n =
     let q : k < length (take end legs) = omega (arith, length-take end legs) in
-    rw add-one (drop-cons (take end legs) k no_leg q ∙ ap (λ x. x ∷ drop (suc k) (take end legs)) (get_or-take end legs k no_leg h))
+    rw (add-one, drop-cons (take end legs) k no_leg, get_or-take)
 
 -- t comes of the legs that are left, from the k-th up to before end
 pub record Left {L : Type 0} (N : Net) (K : Kind L) (room : ℕ) (d : Departure L) (end k e held : ℕ) (rows : List (Row L)) (t : ℕ × Option RunRefusal × List (Row L)) : Type 0 where

@@ -1,14 +1,14 @@
 -- How labels are considered: `held` entries wait in an agenda in which `room` can.
-use Rattle.std.specs.Prelude.{◌≡◌, ℕ, ◌+◌, ◌<◌, ◌≤◌, cond, ◌&&◌, List, [], ◌∷◌, length, take, Some, None, Ok, Err, Option, Result, nat_le, nat_lt}
+use Rattle.std.specs.Prelude.{◌≡◌, ℕ, ◌+◌, ◌≤◌, cond, ◌&&◌, List, [], ◌∷◌, length, take, Some, None, Ok, Err, Option, Result, nat_le, nat_lt}
 use Rattle.std.specs.List.{list_any}
 use Rattle.std.specs.Option.{option_map}
 use Rattle.network.specs.Meaning.{Net}
 use Rattle.network.specs.declared.leg.Leg.{Leg}
 use Rattle.labels.specs.Kinds.{Kind}
-use Rattle.agendas.specs.Bags.{times, OneMore}
+use Rattle.agendas.specs.Bags.{times}
 use Rattle.paths.specs.Paths.{step_of}
-use Rattle.label_table.specs.declared.departure.Departure.{Departure}
-use Rattle.label_table.specs.declared.entries.Entries.{Entries}
+use Rattle.label_table.specs.declared.table.Departure.{Departure}
+use Rattle.label_table.specs.declared.table.LabelTable.{LabelTable}
 use Rattle.label_table.specs.declared.row.Row.{Row}
 use Rattle.label_table.specs.declared.fault.RunFault.{RunFault}
 use Rattle.label_table.specs.Refusals.{RunRefusal, run_refusal, refused}
@@ -20,7 +20,7 @@ pub record Joined (less more : List ℕ) (e e' : ℕ) : Type 0 where
   pub len : length more + e ≡ length less + e'
 
 -- the same rows are lent, more of them are entered, and the new entries wait in the agenda
-pub record EntersMore {L : Type 0} (old new : Entries L) (less more : List ℕ) : Type 0 where
+pub record EntersMore {L : Type 0} (old new : LabelTable L) (less more : List ℕ) : Type 0 where
   pub same_reference : new.rows.ghost_name ≡ old.rows.ghost_name
   pub len : length new.rows.now ≡ length old.rows.now
   pub least : old.entered ≤ new.entered
@@ -59,7 +59,7 @@ module _ {L : Type 0} (K : Kind L) (room : ℕ) where
       cond (list_any (stands_over K row.node row.label) (take e rows)) (Ok covered, rows)
       (cond (nat_lt e (length rows)) (placed e held row rows) (Err (refused 17 row.parent), rows))
 
-  -- the row, if any, that a leg gave
+  -- the row, if any, that a leg gives
   abbrev pub weighed : Option (Row L) → (e held : ℕ) → List (Row L) → Result Verdict RunRefusal × List (Row L)
   weighed None e held rows = (Ok outside, rows)
   weighed (Some row) e held rows = considered e held row rows

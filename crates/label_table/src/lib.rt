@@ -2,7 +2,6 @@
 #![tactic(auto)]
 
 pub mod consider;
-pub mod departure;
-pub mod entries;
 pub mod fault;
 pub mod row;
+pub mod table;

@@ -1,17 +1,14 @@
-use Rattle.std.proofs.Common.{◌≡◌, ◌∙◌, ◌+◌, true, false, take, sym, ap, refl, arith}
-use Rattle.std.specs.List.{list_any}
+use Rattle.std.proofs.Common.{◌∙◌, arith}
 use Rattle.std.proofs.lemmas.Grind.{common_steps}
 use Rattle.std.proofs.lemmas.Result.{err_from_is_err_and}
-use Rattle.label_table.specs.Rows.{stands_over}
 use Rattle.label_table.specs.Considering.{covered, entered}
 use Rattle.label_table.proofs.Weighing.{more_still, next_leg, last_leg}
-use Rattle.label_table.proofs.entries.Entries.consider.Goals as goal
+use Rattle.label_table.proofs.table.LabelTable.consider.Goals as goal
 
 pub legs-preserved-then-stands_over : goal.legs-preserved-then-stands_over
 legs-preserved-then-stands_over g c =
     record {
       rest = next_leg c.legs.invariant.rest c.legs-test.true c.requires.row c.in-Some.ensures covered (grind (arith, common_steps)) (omega arith) (omega arith);
-      len = c.legs.invariant.len;
       more = c.legs.invariant.more;
       keeps = c.legs.invariant.keeps;
     }
@@ -28,7 +25,6 @@ legs-preserved g c =
     let m = told.more in
     record {
       rest = next_leg c.legs.invariant.rest c.legs-test.true c.requires.row c.in-Some.ensures entered (grind (arith, common_steps, told.does)) (omega (arith, told.count)) (omega (arith, told.count, m.puts.len));
-      len = omega (arith, m.len);
       more = more_still c.legs.invariant.more m;
       keeps = told.keeps ∙ c.legs.invariant.keeps;
     }
@@ -37,4 +33,4 @@ pub returns-in_err-enter-clause-does : goal.returns-in_err-enter-clause-does
 returns-in_err-enter-clause-does g c =
     let told = c.in_err-enter.ensures in
     let p = err_from_is_err_and c.from_residual.result c.from_residual.ensures.1 in
-    rw (p.1, p.2, told.same) (last_leg c.legs.invariant.rest c.legs-test.true c.requires.row c.in-Some.ensures _ (grind (arith, common_steps, told.does)))
+    rw (p.1, p.2, told.count) (last_leg c.legs.invariant.rest c.legs-test.true c.requires.row c.in-Some.ensures _ (grind (arith, common_steps, told.does)))

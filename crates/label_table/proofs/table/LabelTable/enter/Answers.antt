@@ -1,7 +1,7 @@
 use Rattle.std.proofs.Common.{sym, ◌∙◌, arith, rules}
 use Rattle.std.proofs.lemmas.Grind.{common_steps}
 use Rattle.label_table.proofs.Weighing.{put_joined}
-use Rattle.label_table.proofs.entries.Entries.enter.Goals as goal
+use Rattle.label_table.proofs.table.LabelTable.enter.Goals as goal
 
 pub returns-clause-more : goal.returns-clause-more
 returns-clause-more g c = record {

@@ -4,7 +4,7 @@ use Rattle.network.specs.Meaning.{legs_at}
 use Rattle.label_table.specs.Rows.{stands_over}
 use Rattle.label_table.specs.Considering.{EntersMore, along}
 use Rattle.label_table.proofs.Weighing.{Left}
-use Rattle.label_table.proofs.entries.Entries.consider.Given as goal
+use Rattle.label_table.proofs.table.LabelTable.consider.Given as goal
 
 abbrev pub invariant-legs : goal.invariant-legs
 invariant-legs g l =
@@ -15,7 +15,6 @@ invariant-legs g l =
     let start = l.fn.legs.start in
     record {
       rest : Left N g.L.Label.kind room l.from l.fn.legs.end l.k l.self.entered (length bag') l.self.rows.now (along N g.L.Label.kind room l.from start (drop start (take l.fn.legs.end (legs_at N l.from.node))) l.fn.self.entered (length bag) l.fn.self.rows.now);
-      len : l.len ≡ length l.self.rows.now;
       more : EntersMore l.fn.self l.self bag bag';
       keeps : g.A.Agenda.limit l.agenda ≡ room;
     }
