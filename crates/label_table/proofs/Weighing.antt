@@ -13,7 +13,7 @@ use Rattle.label_table.specs.declared.table.Departure.{Departure}
 use Rattle.label_table.specs.declared.table.LabelTable.{LabelTable}
 use Rattle.label_table.specs.declared.row.Row.{Row}
 use Rattle.label_table.specs.Refusals.{RunRefusal}
-use Rattle.label_table.specs.Considering.{Joined, EntersMore, Verdict, added, considered, row_along, along}
+use Rattle.label_table.specs.Considering.{Joined, EntersMore, Verdict, added, considered, row_along, along, along_row}
 
 -- an entry that was put waits
 pub put_joined : {F : Type 0} {less more : List ℕ} {e e' : ℕ} {u : Unit {0}} (f : AgendaFault → F) (limit : ℕ) (r : Result (Unit {0}) AgendaFault) → result_map_both (λ x. x) f r ≡ Ok u → PutSays r less more limit e → e' ≡ e + 1 → Joined less more e e'
@@ -43,7 +43,7 @@ next_of legs k end h n =
 
 -- t comes of the legs that are left, from the k-th up to before end
 pub record Left {L : Type 0} (N : Net) (K : Kind L) (room : ℕ) (d : Departure L) (end k e held : ℕ) (rows : List (Row L)) (t : ℕ × Option RunRefusal × List (Row L)) : Type 0 where
-  pub is : t ≡ along N K room d k (drop k (take end (legs_at N d.node))) e held rows
+  pub is : t ≡ along_row N K room d k end e held rows
 
 -- along one leg more
 module _ {L : Type 0} {N : Net} {K : Kind L} {room : ℕ} {d : Departure L} {k end : ℕ} {e held : ℕ} {row : Row L} {rows rows' : List (Row L)} {t : ℕ × Option RunRefusal × List (Row L)} where

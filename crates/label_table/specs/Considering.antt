@@ -1,8 +1,8 @@
 -- How labels are considered: `held` entries wait in an agenda in which `room` can.
-use Rattle.std.specs.Prelude.{◌≡◌, ℕ, ◌+◌, ◌≤◌, cond, ◌&&◌, List, [], ◌∷◌, length, take, Some, None, Ok, Err, Option, Result, nat_le, nat_lt}
+use Rattle.std.specs.Prelude.{◌≡◌, ℕ, ◌+◌, ◌≤◌, cond, ◌&&◌, List, [], ◌∷◌, length, take, drop, Some, None, Ok, Err, Option, Result, nat_le, nat_lt}
 use Rattle.std.specs.List.{list_any}
 use Rattle.std.specs.Option.{option_map}
-use Rattle.network.specs.Meaning.{Net}
+use Rattle.network.specs.Meaning.{Net, legs_at}
 use Rattle.network.specs.declared.leg.Leg.{Leg}
 use Rattle.labels.specs.Kinds.{Kind}
 use Rattle.agendas.specs.Bags.{times}
@@ -77,3 +77,7 @@ module _ {L : Type 0} (N : Net) (K : Kind L) (room : ℕ) where
   along d k (g ∷ gs) e held rows =
       let o = weighed K room (row_along N K d k g) e held rows in
       elim o.0 [ Ok v ↦ along d (k + 1) gs (e + added v) (held + added v) o.1 | Err f ↦ (e, Some f, o.1) ]
+
+  -- along the legs of its node from the k-th up to before end
+  abbrev pub along_row : Departure L → (k end : ℕ) → (e held : ℕ) → List (Row L) → ℕ × Option RunRefusal × List (Row L)
+  along_row d k end e held rows = along d k (drop k (take end (legs_at N d.node))) e held rows

@@ -2,7 +2,7 @@
 ghost use Rattle.std.specs.Prelude.{◌≡◌, ◌+◌, ◌<◌, ◌≤◌, ◌++◌, map, length, take, drop, slice_index_or, is_ok, if◌then◌else◌};
 ghost use Rattle.network.specs.Meaning.{legs_at, no_leg};
 ghost use Rattle.label_table.specs.Rows.{lowered};
-ghost use Rattle.label_table.specs.Considering.{EntersMore, along, placed, row_along, stop_in, told_entering};
+ghost use Rattle.label_table.specs.Considering.{EntersMore, along_row, placed, row_along, stop_in, told_entering};
 
 use crate::fault::{Cause, RunFault};
 use crate::row::Row;
@@ -82,7 +82,7 @@ impl<'t, L: Label> LabelTable<'t, L> {
     ) -> Result<(), RunFault>
         requires node { from.now.node < (N.meaning net.now).n }
         requires row { legs.end ≤ length (legs_at (N.meaning net.now) from.now.node) }
-        ensures does { (self.new.entered, stop_in result, self.new.rows.now) ≡ along (N.meaning net.now) L.kind (A.limit agenda.old) from.now legs.start (drop legs.start (take legs.end (legs_at (N.meaning net.now) from.now.node))) self.old.entered (length (A.bag agenda.old)) self.old.rows.now }
+        ensures does { (self.new.entered, stop_in result, self.new.rows.now) ≡ along_row (N.meaning net.now) L.kind (A.limit agenda.old) from.now legs.start legs.end self.old.entered (length (A.bag agenda.old)) self.old.rows.now }
         ensures more { EntersMore self.old self.new (A.bag agenda.old) (A.bag agenda.new) }
         ensures keeps { A.limit agenda.new ≡ A.limit agenda.old }
     {

@@ -1,25 +1,17 @@
 -- What is certain of a leg that is there.
 use Rattle.std.proofs.Common.{◌≡◌, ℕ, ◌<◌, List, length, get_or, Some, Ok, arith}
 use Rattle.std.specs.List.{slice_get}
-use Rattle.std.proofs.lemmas.Bool.Decides.{nat_tests}
 use Rattle.std.proofs.lemmas.Option.{slice_get-get_or, slice_get_past}
-use Rattle.network.specs.Meaning.{Net, Row, legs_row, unreadable_row, legs_of, legs_at, no_leg}
+use Rattle.network.specs.Meaning.{Net, legs_at, no_leg}
 use Rattle.network.specs.Lawful.{Lawful, LawfulLeg}
-use Rattle.network.specs.Answers.{leg_answer, row_leg}
+use Rattle.network.specs.Answers.{leg_answer}
 use Rattle.network.specs.declared.leg.Leg.{Leg}
+use Rattle.network.proofs.Legs.{leg_tells}
 use Rattle.labels.specs.Steps.{LawfulStep}
 use Rattle.labels.specs.Bounds.{lawful_step}
 use Rattle.paths.specs.Paths.{step_of}
 
--- a leg that a row gave stands in it
-in_row : (i k : ℕ) (row : Row) (g : Leg) → Ok g ≡ row_leg i k row → (k < length (legs_of row)) × (g ≡ get_or (legs_of row) k no_leg)
-in_row i k (legs_row ls) g e = grind (arith, nat_tests)
-in_row i k (unreadable_row f) g e = cc
-
--- and so does a leg that a network gave
-pub leg_tells : (N : Net) (i k : ℕ) (g : Leg) → Ok g ≡ leg_answer N i k → (i < N.n) × (k < length (legs_at N i)) × (g ≡ get_or (legs_at N i) k no_leg)
-leg_tells N i k g e = grind (arith, nat_tests, in_row i k (N.row i) g)
-
+-- a leg that a lawful network gave
 pub told_lawful : (N : Net) → Lawful N → (i k : ℕ) (g : Leg) → Ok g ≡ leg_answer N i k → LawfulLeg N.n N.reach g
 told_lawful N law i k g e =
     let t = leg_tells N i k g e in
@@ -29,7 +21,7 @@ told_lawful N law i k g e =
 pub at_place : {X : Type 0} (xs : List X) (k : ℕ) (x d : X) → slice_get xs k ≡ Some x → (k < length xs) × (x ≡ get_or xs k d)
 at_place xs k x d e = grind (arith, slice_get-get_or xs k d, slice_get_past xs k)
 
--- a leg of a lawful network, and the step along it
+-- a leg that stands in one, and the step along it
 pub leg_lawful : (N : Net) → Lawful N → (i : ℕ) → i < N.n → (k : ℕ) (g : Leg) → slice_get (legs_at N i) k ≡ Some g → LawfulLeg N.n N.reach g
 leg_lawful N law i h k g e =
     let t = at_place (legs_at N i) k g no_leg e in

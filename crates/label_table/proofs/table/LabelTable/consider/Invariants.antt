@@ -1,8 +1,7 @@
-use Rattle.std.proofs.Common.{◌≡◌, ◌<◌, false, length, take, drop}
+use Rattle.std.proofs.Common.{◌≡◌, ◌<◌, false, length, take}
 use Rattle.std.specs.List.{list_any}
-use Rattle.network.specs.Meaning.{legs_at}
 use Rattle.label_table.specs.Rows.{stands_over}
-use Rattle.label_table.specs.Considering.{EntersMore, along}
+use Rattle.label_table.specs.Considering.{EntersMore, along_row}
 use Rattle.label_table.proofs.Weighing.{Left}
 use Rattle.label_table.proofs.table.LabelTable.consider.Given as goal
 
@@ -12,9 +11,8 @@ invariant-legs g l =
     let room = g.A.Agenda.limit l.fn.agenda in
     let bag = g.A.Agenda.bag l.fn.agenda in
     let bag' = g.A.Agenda.bag l.agenda in
-    let start = l.fn.legs.start in
     record {
-      rest : Left N g.L.Label.kind room l.from l.fn.legs.end l.k l.self.entered (length bag') l.self.rows.now (along N g.L.Label.kind room l.from start (drop start (take l.fn.legs.end (legs_at N l.from.node))) l.fn.self.entered (length bag) l.fn.self.rows.now);
+      rest : Left N g.L.Label.kind room l.from l.fn.legs.end l.k l.self.entered (length bag') l.self.rows.now (along_row N g.L.Label.kind room l.from l.fn.legs.start l.fn.legs.end l.fn.self.entered (length bag) l.fn.self.rows.now);
       more : EntersMore l.fn.self l.self bag bag';
       keeps : g.A.Agenda.limit l.agenda ≡ room;
     }
