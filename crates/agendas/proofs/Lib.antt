@@ -1,4 +1,4 @@
-pub mod Counts
 pub mod Rings
 pub mod Piles
 pub mod Steps
+pub mod Tables
