@@ -1,4 +1,3 @@
 pub mod Rings
 pub mod Piles
 pub mod Steps
-pub mod Tables

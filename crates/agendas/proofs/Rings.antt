@@ -1,5 +1,5 @@
 -- What a ring holds after a put and a take.
-use Rattle.std.proofs.Common.{◌≡◌, ℕ, zero, suc, ◌+◌, ◌-◌, ◌<◌, ◌≤◌, List, [], ◌∷◌, ◌++◌, length, get_or, take, drop, set, ap, arith}
+use Rattle.std.proofs.Common.{◌≡◌, ℕ, zero, suc, ◌+◌, ◌-◌, ◌<◌, ◌≤◌, List, [], ◌∷◌, ◌++◌, length, get_or, take, set, arith}
 use Rattle.std.proofs.lemmas.Grind.{common_steps}
 use Rattle.std.proofs.lemmas.List.{take_more_set, drop-set-add, drop-set-lt}
 use Rattle.agendas.specs.Queues.{ring, place}
@@ -14,3 +14,5 @@ ring_put t first k x within room = grind (arith, common_steps, drop-set-add, dro
 
 pub ring_take : (t : List ℕ) (first n : ℕ) → first ≤ length t → n < length t → ring t first (n + 1) ≡ get_or t (place (length t) first 0) 0 ∷ ring t (place (length t) first 0 + 1) n
 ring_take t first n within some = grind (arith, common_steps)
+
+pub ruleset rings = (common_steps, ring_put, ring_take)

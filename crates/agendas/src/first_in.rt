@@ -48,6 +48,7 @@ impl<'a> FirstIn<'a> {
     }
 }
 
+#[tactic(auto, using(crate::proofs::Rings::rings))]
 impl<'a> Agenda for FirstIn<'a> {
     ghost use Rattle.std.specs.Prelude.{◌≡◌};
     ghost use Rattle.agendas.specs.Bags.{PutSays, TakeSays};
