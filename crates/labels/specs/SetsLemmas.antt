@@ -1,13 +1,13 @@
 -- Sets of bits, and the nodes that they hold.
-use Rattle.std.specs.Prelude.{◌≡◌, ℕ, ◌^◌, ◌<◌, Bool, true}
+use Rattle.std.specs.Prelude.{◌≡◌, ℕ, ◌^◌, ◌<◌, true}
 use Rattle.std.specs.Int.{bit_at}
-use Rattle.std.specs.Int.Bits.{bit_or}
+use Rattle.std.specs.Int.Bits.{and_zero_r, or_zero_r}
 use Rattle.std.proofs.Common.{ap, sym, ◌∙◌, arith}
 use Rattle.std.proofs.lemmas.Nat.{or_comm}
-use Rattle.std.proofs.lemmas.Nat.Bits.{bit_at_or, bit_at-lt, bit_at-zero, bit_at-pow_same, bit_at-pow_other, bit_at_above, same_from_bits}
+use Rattle.std.proofs.lemmas.Nat.Bits.{and_pow, bit_at_or, bit_at-lt, bit_at-zero, bit_at-pow_same, bit_at-pow_other, bit_at_above, same_from_bits}
 use Rattle.std.proofs.lemmas.Bool.{eqb-true, eq-eqb}
 use Rattle.std.proofs.lemmas.Bool.Decides.{nat_tests}
-use Rattle.labels.specs.Sets.{set_of, no_nodes, Empty, has, adding, OneMore, within, Subset}
+use Rattle.labels.specs.Sets.{set_of, adding, OneMore, within, Subset}
 use Rattle.labels.specs.declared.node_set.NodeSet.{NodeSet}
 
 -- s lies in u: each bit of s is one of u
@@ -38,9 +38,6 @@ within_more s u node p =
 
 -- ---- members
 
-pub no_nodes_lem : Empty no_nodes
-no_nodes_lem i = grind (arith, nat_tests, bit_at-zero)
-
 pub subset : (s u : NodeSet) → within s u ≡ true → Subset s u
 subset s u p i e = let h = within_lies s u p in grind (arith, nat_tests, h)
 
@@ -49,3 +46,6 @@ subset_within s u small f = lies_within s u (λ k e. let over = bit_at_above s.b
 
 pub has_adding : (s : NodeSet) (node : ℕ) → OneMore s node (adding s node)
 has_adding s node i = grind (arith, nat_tests, bit_at_or, bit_at-lt, bit_at-pow_same, bit_at-pow_other)
+
+-- what the methods of a set say
+pub ruleset sets = (subset, subset_within, has_adding, and_pow, and_zero_r, or_zero_r)

@@ -15,6 +15,7 @@ fn bit(node: u16) -> u64
     1u64.checked_shl(u32::from(node)).unwrap_or(0)
 }
 
+#[tactic(auto, using(crate::specs::SetsLemmas::sets))]
 impl NodeSet {
     pub fn empty() -> NodeSet
         ensures set { result ≡ no_nodes }
