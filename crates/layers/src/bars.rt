@@ -1,6 +1,6 @@
 //! Bars between nodes.
 ghost use Rattle.std.specs.Prelude.{◌≡◌, []};
-ghost use Rattle.layers.specs.Bars.{is_barred, bars_from, barred, bar_pair};
+ghost use Rattle.layers.specs.Bars.{is_barred, bars_from, stays, barred, bar_pair};
 ghost use Rattle.layers.specs.BarsLawful.{barred_lawful};
 ghost use Rattle.layers.specs.Refusals.{told};
 
@@ -10,7 +10,7 @@ use arrayvec::ArrayVec;
 use network::fault::NetworkFault;
 use network::leg::{Leg, Window};
 use network::network::Network;
-use network::reading::leg_at;
+use network::row::legs_from;
 
 /// The most pairs that are barred.
 pub const MAX_PAIRS: u16 = 256;
@@ -50,6 +50,13 @@ impl<N: Network> Bars<N> {
         ensures { result ≡ bars_from self.now.pairs.items i }
     {
         self.pairs.iter().any(|pair| pair.0 == i)
+    }
+
+    // Whether a leg of node `i` stays.
+    fn stays(&self, i: u16, leg: &Leg) -> bool
+        ensures { result ≡ stays self.now.pairs.items i leg.now }
+    {
+        !self.is_barred(i, leg.head)
     }
 }
 
@@ -103,30 +110,30 @@ impl<N: Network> Network for Sealed<Bars<N>> {
         self.layer.below.window(i)
     }
 
+    #[tactic(auto, using(crate::proofs::Barring::length_below))]
     // Costs a look at each pair; where one leaves the node, also every leg of the row below with a look at each pair.
     fn row_len(&self, i: u16) -> Result<u16, NetworkFault> {
-        let Bars { below, .. } = &self.layer;
-        let len = below.row_len(i)?;
-        if !self.layer.bars_from(i) {
+        let bars = &self.layer;
+        let len = bars.below.row_len(i)?;
+        if !bars.bars_from(i) {
             return Ok(len);
         }
-        let left = (0..len)
-            .map(|k| leg_at(below, i, k))
-            .filter(|leg| !self.layer.is_barred(i, leg.head))
+        let left = legs_from(&bars.below, i, 0)
+            .filter(|leg| bars.stays(i, leg))
             .count();
         Ok(left as u16)
     }
 
+    #[tactic(auto, using(crate::proofs::Barring::leg_below, crate::proofs::Barring::leg_picked))]
     // Costs as `row_len`, but the row below is read only up to the leg that is asked for.
     fn leg(&self, i: u16, k: u16) -> Result<Leg, NetworkFault> {
-        let Bars { below, .. } = &self.layer;
-        if !self.layer.bars_from(i) {
-            return below.leg(i, k);
+        let bars = &self.layer;
+        if !bars.bars_from(i) {
+            return bars.below.leg(i, k);
         }
-        let len = below.row_len(i)?;
-        (0..len)
-            .map(|k| leg_at(below, i, k))
-            .filter(|leg| !self.layer.is_barred(i, leg.head))
+        bars.below.row_len(i)?;
+        legs_from(&bars.below, i, 0)
+            .filter(|leg| bars.stays(i, leg))
             .nth(k as usize)
             .ok_or(NetworkFault::NoLeg { node: i })
     }
