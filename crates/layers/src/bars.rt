@@ -5,7 +5,7 @@ ghost use Rattle.layers.specs.BarsLawful.{barred_lawful};
 ghost use Rattle.layers.specs.Refusals.{told};
 
 use crate::draft::{Draft, Sealed};
-use crate::fault::LayerFault;
+use crate::fault::{LayerFault, known};
 use arrayvec::ArrayVec;
 use network::fault::NetworkFault;
 use network::leg::{Leg, Window};
@@ -15,6 +15,7 @@ use network::row::legs_from;
 /// The most pairs that are barred.
 pub const MAX_PAIRS: u16 = 256;
 
+// The places for them.
 const PLACES: usize = MAX_PAIRS as usize;
 
 /// Pairs of nodes of the network below, each once: every leg from the first to the second of a pair is left out.
@@ -70,12 +71,8 @@ impl<N: Network> Draft<Bars<N>> {
         ensures below { self.new.layer.below ≡ self.old.layer.below }
     {
         let bars = &mut self.layer;
-        if i >= bars.below.node_count() {
-            return Err(LayerFault::NoNode { node: i });
-        }
-        if j >= bars.below.node_count() {
-            return Err(LayerFault::NoNode { node: j });
-        }
+        known(&bars.below, i)?;
+        known(&bars.below, j)?;
         if bars.is_barred(i, j) {
             return Ok(());
         }
@@ -110,8 +107,8 @@ impl<N: Network> Network for Sealed<Bars<N>> {
         self.layer.below.window(i)
     }
 
-    #[tactic(auto, using(crate::proofs::Barring::length_below))]
     // Costs a look at each pair; where one leaves the node, also every leg of the row below with a look at each pair.
+    #[tactic(auto, using(crate::proofs::Barring::length_below))]
     fn row_len(&self, i: u16) -> Result<u16, NetworkFault> {
         let bars = &self.layer;
         let len = bars.below.row_len(i)?;
@@ -124,8 +121,8 @@ impl<N: Network> Network for Sealed<Bars<N>> {
         Ok(left as u16)
     }
 
-    #[tactic(auto, using(crate::proofs::Barring::leg_below, crate::proofs::Barring::leg_picked))]
     // Costs as `row_len`, but the row below is read only up to the leg that is asked for.
+    #[tactic(auto, using(crate::proofs::Barring::leg_below))]
     fn leg(&self, i: u16, k: u16) -> Result<Leg, NetworkFault> {
         let bars = &self.layer;
         if !bars.bars_from(i) {

@@ -1,7 +1,9 @@
 //! Why a layer refuses a change.
-ghost use Rattle.std.specs.Prelude.{◌≡◌, Some};
-ghost use Rattle.layers.specs.Refusals.{layer_refusal, layer_refusal_text};
+ghost use Rattle.std.specs.Prelude.{◌≡◌, Some, Ok};
+ghost use Rattle.network.specs.Answers.{if_node};
+ghost use Rattle.layers.specs.Refusals.{layer_refusal, layer_refusal_text, told};
 
+use network::network::Network;
 use std::fmt;
 
 /// Why a layer refuses a change, and the node that it names.
@@ -46,4 +48,14 @@ impl fmt::Display for LayerFault {
     fn fmt<W: fmt::Write>(&self, f: &mut fmt::Formatter<W>) -> fmt::Result {
         write!(f, "{} {}", self.number(), self.node())
     }
+}
+
+// Refuses a node that is not in the network.
+pub(crate) fn known<N: Network>(net: &N, node: u16) -> Result<(), LayerFault>
+    ensures { told result ≡ if_node (N.meaning net.now) node (Ok tt) }
+{
+    if node >= net.node_count() {
+        return Err(LayerFault::NoNode { node });
+    }
+    Ok(())
 }
