@@ -15,7 +15,7 @@ use crate::source::ImageSource;
 use blocks::bytes::{le16, le32};
 use blocks::table::{PER_BLOCK, blocks_for};
 use image_format::MAX_COST;
-use network::fault::{FileFault, NetworkFault, at_node};
+use network::fault::{FileFault, NetworkFault, met_at};
 use network::leg::{Leg, Window};
 use network::network::Network;
 
@@ -71,7 +71,7 @@ impl ImageSource<'_> {
         }
         let from = start(self.image, i as usize) as usize;
         let to = start(self.image, i as usize + 1) as usize;
-        at_node(self.readable(from, to), i)?;
+        met_at(self.readable(from, to), i)?;
         Ok(Span { from, to })
     }
 }

@@ -1,5 +1,5 @@
 -- What a network means.
-use Rattle.std.specs.Prelude.{◌≡◌, ℕ, ◌<◌, List, [], pos, Some, None, Option}
+use Rattle.std.specs.Prelude.{◌≡◌, ℕ, ◌<◌, List, [], cond, drop, nat_lt, pos, Some, None, Option}
 use Rattle.network.specs.Limits.{most_time}
 use Rattle.network.specs.Pile.{pile}
 use Rattle.network.specs.declared.fault.FileFault.{FileFault}
@@ -34,6 +34,10 @@ fault_in (unreadable_row f) = Some f
 -- the legs of node i, those of the nodes below i in order, and those of a whole network
 abbrev pub legs_at : Net → ℕ → List Leg
 legs_at N i = legs_of (N.row i)
+
+-- those of node i from leg k on; none where there is no such node
+abbrev pub legs_left : Net → ℕ → ℕ → List Leg
+legs_left N i k = cond (nat_lt i N.n) (drop k (legs_at N i)) []
 
 abbrev pub legs_below : Net → ℕ → List Leg
 legs_below N i = pile (legs_at N) i

@@ -4,6 +4,8 @@ ghost use Rattle.std.specs.Result.{result_map_both};
 ghost use Rattle.network.specs.Refusals.{part_number, fault, network_refusal};
 ghost use Rattle.network.specs.declared.fault.NetworkFault.TheVariants.{UnreadableRow};
 
+use std::fmt;
+
 /// The part of a file that is wrong.
 #[derive(Clone, Copy, PartialEq, Eq, Debug)]
 pub enum FilePart {
@@ -49,6 +51,13 @@ pub struct FileFault {
     pub byte: u16,
 }
 
+impl fmt::Display for FileFault {
+    /// The number of the refusal, the block and the byte.
+    fn fmt<W: fmt::Write>(&self, f: &mut fmt::Formatter<W>) -> fmt::Result {
+        write!(f, "{} {} {}", self.part.number(), self.block, self.byte)
+    }
+}
+
 /// Why a network does not answer, the node asked about, and the fault of the file below.
 #[derive(Clone, Copy, PartialEq, Eq, Debug)]
 pub enum NetworkFault {
@@ -70,30 +79,27 @@ impl NetworkFault {
     }
 }
 
-/// A fault of a file that was met at a node.
-#[derive(Clone, Copy)]
-pub struct AtNode {
-    pub node: u16,
-    pub fault: FileFault,
+/// A fault of what lies below, and the place where it was met: the node or the entry that was asked about.
+#[derive(Clone, Copy, PartialEq, Eq, Debug)]
+pub struct Met<F> {
+    pub at: u16,
+    pub fault: F,
 }
 
-impl From<AtNode> for NetworkFault {
-    ghost from_gives = { λ a r. r ≡ UnreadableRow a.node a.fault };
-
-    fn from(a: AtNode) -> NetworkFault {
-        NetworkFault::UnreadableRow {
-            node: a.node,
-            below: a.fault,
-        }
-    }
-}
-
-/// What came of a file, met at a node.
-pub fn at_node<T>(r: Result<T, FileFault>, node: u16) -> Result<T, AtNode>
-    ensures { result ≡ result_map_both (λ x. x) (λ f. record { node = node; fault = f }) r }
+/// What came of something below, met at a place.
+pub fn met_at<T, F>(r: Result<T, F>, at: u16) -> Result<T, Met<F>>
+    ensures { result ≡ result_map_both (λ x. x) (λ f. record { at = at; fault = f }) r }
 {
-    match r {
-        Ok(x) => Ok(x),
-        Err(fault) => Err(AtNode { node, fault }),
+    r.map_err(|fault| Met { at, fault })
+}
+
+impl From<Met<FileFault>> for NetworkFault {
+    ghost from_gives = { λ m r. r ≡ UnreadableRow m.at m.fault };
+
+    fn from(m: Met<FileFault>) -> NetworkFault {
+        NetworkFault::UnreadableRow {
+            node: m.at,
+            below: m.fault,
+        }
     }
 }

@@ -2,9 +2,11 @@
 //! refuse with.
 #![tactic(auto)]
 
+pub mod each;
 pub mod fault;
 pub mod leg;
 pub mod lent;
 pub mod limits;
 pub mod network;
 pub mod reading;
+pub mod row;

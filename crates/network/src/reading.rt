@@ -10,10 +10,7 @@ pub fn window_at<N: Network>(net: &N, i: u16) -> Window
     requires node { i < (N.meaning net.now).n }
     ensures { result ≡ (N.meaning net.now).window i }
 {
-    match net.window(i) {
-        Ok(w) => w,
-        Err(_) => unreachable(),
-    }
+    net.window(i).unwrap()
 }
 
 /// The length of a row that can be read.
@@ -22,10 +19,7 @@ pub fn len_at<N: Network>(net: &N, i: u16) -> u16
     requires readable { fault_in ((N.meaning net.now).row i) ≡ None }
     ensures { result ≡ length (legs_at (N.meaning net.now) i) }
 {
-    match net.row_len(i) {
-        Ok(n) => n,
-        Err(_) => unreachable(),
-    }
+    net.row_len(i).unwrap()
 }
 
 /// A leg that is there.
@@ -34,8 +28,5 @@ pub fn leg_at<N: Network>(net: &N, i: u16, k: u16) -> Leg
     requires within { k < length (legs_at (N.meaning net.now) i) }
     ensures { result ≡ slice_index_or (legs_at (N.meaning net.now) i) k no_leg }
 {
-    match net.leg(i, k) {
-        Ok(l) => l,
-        Err(_) => unreachable(),
-    }
+    net.leg(i, k).unwrap()
 }
