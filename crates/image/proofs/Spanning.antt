@@ -12,7 +12,7 @@ use Rattle.image_format.specs.Decode.{span_fault, leg_at, image_net}
 use Rattle.image_format.proofs.Sounds.{Facts, sound_facts, ordered}
 use Rattle.image_format.proofs.Told.{length_refused, leg_refused, length_given, leg_given, leg_missing}
 use Rattle.image.specs.Spans.{span_at, span_by, span_answer}
-use Rattle.image.specs.declared.answers.Span.{Span}
+use Rattle.std.specs.declared.ops.Range.{Range}
 
 off_node : {X : Type 0} (s : List ℕ) (i : ℕ) (a : Result X NetworkRefusal) → nodes_in s ≤ i → if_node (image_net s) i a ≡ Err (no_node i)
 off_node s i a h = cond-false _ _ _ (le-ltb _ _ h)
@@ -33,19 +33,19 @@ within s i e =
     }
 
 -- a span that is given
-pub record Given (s : List ℕ) (i : ℕ) (p : Span) : Type 0 where
+pub record Given (s : List ℕ) (i : ℕ) (p : Range ℕ) : Type 0 where
   pub node_in : i < nodes_in s
   pub readable : span_fault s (start s i) (start s (i + 1)) ≡ None
-  pub from_is : p.from ≡ start s i
-  pub to_is : p.to ≡ start s (i + 1)
+  pub start_is : p.start ≡ start s i
+  pub end_is : p.end ≡ start s (i + 1)
 
-by_given : (s : List ℕ) (i : ℕ) (o : Option FileFault) (p : Span) → i < nodes_in s → span_fault s (start s i) (start s (i + 1)) ≡ o → Ok p ≡ span_by i o (span_at s i) → Given s i p
+by_given : (s : List ℕ) (i : ℕ) (o : Option FileFault) (p : Range ℕ) → i < nodes_in s → span_fault s (start s i) (start s (i + 1)) ≡ o → Ok p ≡ span_by i o (span_at s i) → Given s i p
 by_given s i None p h e q =
     let z : p ≡ span_at s i = cc q in
-    record { node_in = h; readable = e; from_is = ap (λ t. t.from) z; to_is = ap (λ t. t.to) z }
+    record { node_in = h; readable = e; start_is = ap (λ t. t.start) z; end_is = ap (λ t. t.end) z }
 by_given s i (Some f) p h e q = let z : ◌≡◌ {A = ℕ} 0 1 = cc in absurd (omega arith)
 
-pub given_span : (s : List ℕ) (i : ℕ) (p : Span) → Ok p ≡ span_answer s i → Given s i p
+pub given_span : (s : List ℕ) (i : ℕ) (p : Range ℕ) → Ok p ≡ span_answer s i → Given s i p
 given_span s i p e =
     ⊎_elim
     (λ (h : i < nodes_in s). by_given s i (span_fault s (start s i) (start s (i + 1))) p h refl (e ∙ at_node_lem (image_net s) i _ h))
@@ -68,18 +68,18 @@ refused_span s i r e =
     (ap Err z ∙ sym (off_node s i _ h), λ k. ap Err z ∙ sym (off_node s i _ h)))
     (cases_lt i (nodes_in s))
 
-pub length_of : (s : List ℕ) (i : ℕ) (p : Span) → Given s i p → Ok (p.to - p.from) ≡ length_answer (image_net s) i
+pub length_of : (s : List ℕ) (i : ℕ) (p : Range ℕ) → Given s i p → Ok (p.end - p.start) ≡ length_answer (image_net s) i
 length_of s i p g =
-    ap (λ z. Ok (z - p.from)) g.to_is ∙ ap (λ z. Ok (start s (i + 1) - z)) g.from_is ∙ sym (length_given s i g.node_in g.readable)
+    ap (λ z. Ok (z - p.start)) g.end_is ∙ ap (λ z. Ok (start s (i + 1) - z)) g.start_is ∙ sym (length_given s i g.node_in g.readable)
 
-pub leg_of : (s : List ℕ) (i : ℕ) (p : Span) (k : ℕ) → Given s i p → p.from + k < p.to → Ok (leg_at s (p.from + k)) ≡ leg_answer (image_net s) i k
+pub leg_of : (s : List ℕ) (i : ℕ) (p : Range ℕ) (k : ℕ) → Given s i p → p.start + k < p.end → Ok (leg_at s (p.start + k)) ≡ leg_answer (image_net s) i k
 leg_of s i p k g h =
-    let a : p.from ≡ start s i = g.from_is in
-    let b : p.to ≡ start s (i + 1) = g.to_is in
+    let a : p.start ≡ start s i = g.start_is in
+    let b : p.end ≡ start s (i + 1) = g.end_is in
     ap (λ z. Ok (leg_at s (z + k))) a ∙ sym (leg_given s i g.node_in g.readable k (omega arith))
 
-pub leg_beyond : (s : List ℕ) (i : ℕ) (p : Span) (k : ℕ) → Given s i p → p.to ≤ p.from + k → Err (no_such_leg i) ≡ leg_answer (image_net s) i k
+pub leg_beyond : (s : List ℕ) (i : ℕ) (p : Range ℕ) (k : ℕ) → Given s i p → p.end ≤ p.start + k → Err (no_such_leg i) ≡ leg_answer (image_net s) i k
 leg_beyond s i p k g h =
-    let a : p.from ≡ start s i = g.from_is in
-    let b : p.to ≡ start s (i + 1) = g.to_is in
+    let a : p.start ≡ start s i = g.start_is in
+    let b : p.end ≡ start s (i + 1) = g.end_is in
     sym (leg_missing s i g.node_in g.readable k (omega arith))
