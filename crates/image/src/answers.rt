@@ -1,14 +1,14 @@
 //! What an image answers.
-ghost use Rattle.std.specs.Prelude.{◌≡◌, ℕ, ◌<◌, ◌≤◌};
+ghost use Rattle.std.specs.Prelude.{◌≡◌, ◌<◌, ◌≤◌, MatchResult};
 ghost use Rattle.std.specs.Result.{result_err};
-ghost use Rattle.network.specs.Refusals.{told};
+ghost use Rattle.network.specs.Refusals.{network_refusal};
 ghost use Rattle.blocks.specs.Tables.{blocks_for};
 ghost use Rattle.blocks.specs.Blocks.{block_of};
 ghost use Rattle.image_format.specs.Layout.{legs_in, header_in};
 ghost use Rattle.image_format.specs.Judge.{leg_block_fault_at};
 ghost use Rattle.image_format.specs.Decode.{image_net, blocks_over, span_fault};
 ghost use Rattle.image_format.proofs.Lawfuls.{image_lawful};
-ghost use Rattle.image.specs.Spans.{span_answer};
+ghost use Rattle.image.specs.Spans.{IsSpan, IsRefused};
 
 use crate::layout::Layout;
 use crate::source::ImageSource;
@@ -65,6 +65,7 @@ impl ImageSource<'_> {
     }
 
     // Judges the leg blocks that hold a leg from `from` to before `to`.
+    #[tactic(auto, unfolding(image_format::specs::Decode::span_fault))]
     fn readable(&self, from: usize, to: usize) -> Result<(), FileFault>
         requires { to ≤ legs_in self.now.image.now }
         ensures { result_err result ≡ span_fault self.now.image.now from to }
@@ -74,7 +75,7 @@ impl ImageSource<'_> {
 
     // Where the row of node `i` stands among the legs, where it can be read.
     fn row(&self, i: u16) -> Result<Range<usize>, NetworkFault>
-        ensures { told result ≡ span_answer self.now.image.now i }
+        ensures { MatchResult result (λ row. IsSpan self.now.image.now i row.start row.end) (λ f. IsRefused self.now.image.now i (network_refusal f)) }
     {
         let layout = self.layout();
         if i >= layout.nodes {
@@ -116,11 +117,13 @@ impl Network for ImageSource<'_> {
         Ok(layout.node(i as usize).window)
     }
 
+    #[tactic(auto, using(crate::proofs::Spanning::length_of))]
     fn row_len(&self, i: u16) -> Result<u16, NetworkFault> {
         let row = self.row(i)?;
         Ok(row.len() as u16)
     }
 
+    #[tactic(auto, using(crate::proofs::Spanning::leg_beyond))]
     fn leg(&self, i: u16, k: u16) -> Result<Leg, NetworkFault> {
         let row = self.row(i)?;
         let j = row.start + k as usize;

@@ -1,5 +1,5 @@
 //! Whether leg blocks are sound.
-ghost use Rattle.std.specs.Prelude.{◌≡◌, ℕ, ◌+◌, ◌*◌, ◌<◌, ◌≤◌, length};
+ghost use Rattle.std.specs.Prelude.{◌≡◌, ◌<◌, ◌&&◌, not, is_some, nat_lt};
 ghost use Rattle.std.specs.Result.{result_err};
 ghost use Rattle.blocks.specs.Tables.{blocks_for};
 ghost use Rattle.image_format.specs.Judge.{leg_fault_in, leg_block_fault_at};
@@ -50,11 +50,17 @@ impl Layout<'_> {
         unused(block, 4 + WIDTH * count, FilePart::LegTable, number as u16)
     }
 
+    // Whether there is a leg block `k`, counted from 0, and it is sound.
+    fn is_sound(&self, k: usize) -> bool
+        ensures { result ≡ (nat_lt k (blocks_for 42 self.now.legs) && not (is_some (leg_block_fault_at self.now.image.now k))) }
+    {
+        k < blocks_for(self.legs as usize) && self.judge_leg_block(k).is_ok()
+    }
+
     /// Marks the leg blocks that are sound.
     pub(crate) fn sound_leg_blocks(&self) -> [bool; MAX_LEG_BLOCKS]
         ensures { Marked result self.now.image.now }
     {
-        let count = blocks_for(self.legs as usize);
-        array::from_fn(|k| k < count && self.judge_leg_block(k).is_ok())
+        array::from_fn(|k| self.is_sound(k))
     }
 }
