@@ -9,8 +9,7 @@ ghost use Rattle.image.specs.Marks.{Marked};
 
 use crate::built_in::BUILT_IN;
 use crate::judge::judged;
-use crate::legs::{MAX_LEG_BLOCKS, sound_blocks};
-use blocks::bytes::are_bytes;
+use crate::legs::MAX_LEG_BLOCKS;
 use network::fault::FileFault;
 
 /// A network read from a borrowed image in place: windows and legs are answered from parts of the image.
@@ -30,7 +29,6 @@ impl<'a> ImageSource<'a> {
     pub fn built_in() -> ImageSource<'a>
         ensures { Same (image_net result.image.now) lone_node }
     {
-        are_bytes(&BUILT_IN);
         ImageSource {
             image: &BUILT_IN,
             marks: [false; MAX_LEG_BLOCKS],
@@ -42,9 +40,8 @@ impl<'a> ImageSource<'a> {
         ensures verdict { told_file result ≡ verdict (judgement image.now) }
         ensures cases { MatchResult result (λ _. self.new.image.now ≡ image.now) (λ _. self.new ≡ self.old) }
     {
-        judged(image)?;
-        are_bytes(image);
-        let marks = sound_blocks(image);
+        let layout = judged(image)?;
+        let marks = layout.sound_leg_blocks();
         *self = ImageSource { image, marks };
         Ok(())
     }
