@@ -1,12 +1,16 @@
 -- One more record, block, row or leg.
-use Rattle.std.proofs.Common.{◌≡◌, ℕ, ◌+◌, ◌*◌, ◌<◌, ◌≤◌, Bool, true, false, ◌&&◌, leb, List, ◌++◌, length, get_or, take, drop, Some, None, Ok, Err, Option, Result, sym, refl, ap, ◌∙◌, ⊎_elim, add-one, arith}
+use Rattle.std.proofs.Common.{◌≡◌, ℕ, zero, suc, ◌+◌, ◌*◌, ◌<◌, ◌≤◌, Bool, true, false, ◌&&◌, leb, List, ◌++◌, length, get_or, take, drop, Some, None, Ok, Err, Option, Result, sym, refl, ap, ◌∙◌, ⊎_elim, add-one, arith}
 use borrow.Rule.Slice.PartMut.{put_mid}
 use Rattle.std.specs.Option.{option_map, option_or}
 use Rattle.std.proofs.lemmas.List.{append_assoc, at_drop_more, at_drop_all}
 use Rattle.std.proofs.lemmas.Bool.{cases_eq, le-leb, lt-leb}
-use Rattle.network.specs.Meaning.{Net, fault_in, legs_at, no_leg}
+use Rattle.std.specs.Result.{result_unwrap_or}
+use Rattle.network.specs.Answers.{length_answer}
+use Rattle.network.specs.declared.fault.NetworkFault.{NetworkFault}
+use Rattle.network.proofs.Facts.{length_tells, refusal_tells}
+use Rattle.network.specs.Meaning.{Net, Row, legs_row, unreadable_row, legs_of, fault_in, legs_at, no_leg}
 use Rattle.network.specs.Lawful.{Lawful}
-use Rattle.network.specs.Refusals.{NetworkRefusal, unreadable}
+use Rattle.network.specs.Refusals.{NetworkRefusal, unreadable, told}
 use Rattle.network.specs.Pile.{pile}
 use Rattle.network.specs.declared.leg.Leg.{Leg}
 use Rattle.network.specs.First.{unless, first_of}
@@ -19,7 +23,8 @@ use Rattle.blocks.proofs.Chunked.{chunks12, table_block_length}
 use Rattle.network.proofs.Piles.{length-pile}
 use Rattle.network.proofs.Firsts.{first_more, first_here, first_each}
 use Rattle.blocks.specs.Over.{over}
-use Rattle.image_writer.specs.Write.{unread_at, holds_leg, holds_legs, dear_at, write_fault, answer_by, bytes_by, count_answer, write_answer, written, node_block_of, leg_block_of, cost_too_large, no_room}
+use Rattle.image_writer.specs.declared.fault.WriteFault.TheVariants.{CostTooLarge}
+use Rattle.image_writer.specs.Write.{unread_at, holds_legs, dear_at, dear_fault, write_refusal, write_fault, answer_by, bytes_by, count_answer, write_answer, written, node_block_of, leg_block_of, cost_too_large, no_room}
 use Rattle.blocks.proofs.Overs.{next, grow, part_over, over_front}
 
 -- rows
@@ -37,31 +42,36 @@ rows_read N i p q f =
     let e : i ≡ N.n = omega arith in
     ap (λ j. Ok (first_of_node N j)) e ∙ sym (ap (λ o. answer_by o (leg_count N)) (ap (first_of (unread_at N)) (sym e) ∙ f))
 
+no_legs : (i : ℕ) (r : NetworkRefusal) (row : Row) → option_map (unreadable i) (fault_in row) ≡ Some r → 0 ≡ length (legs_of row)
+no_legs i r (legs_row ls) e = let z : ◌≡◌ {A = ℕ} 0 1 = cc in absurd (omega arith)
+no_legs i r (unreadable_row f) e = refl
+
+-- the length of a row that cannot be read is 0
+pub row_count : (N : Net) (i : ℕ) (r : Result ℕ NetworkFault) → i < N.n → told r ≡ length_answer N i → result_unwrap_or r 0 ≡ length (legs_at N i)
+row_count N i (Ok len) h e = (length_tells N i len h e).1
+row_count N i (Err f) h e = no_legs i _ (N.row i) (refusal_tells N i _ h e)
+
 -- costs
-holds_open : (ls : List Leg) (k : ℕ) → k < length ls → holds_legs (drop k ls) ≡ (holds_leg (get_or ls k no_leg) && holds_legs (drop (k + 1) ls))
-holds_open ls k h = at_drop_more holds_legs ls k no_leg h
+map_or : {X Y : Type 0} (f : X → Y) (o p : Option X) → option_map f (option_or o p) ≡ option_or (option_map f o) (option_map f p)
+map_or f None p = refl
+map_or f (Some x) p = refl
 
-pub holds_more : (ls : List Leg) (k : ℕ) (x : Bool) → k < length ls → holds_leg (get_or ls k no_leg) ≡ true → holds_legs (drop k ls) ≡ x → holds_legs (drop (k + 1) ls) ≡ x
-holds_more ls k x h e f = sym (holds_open ls k h ∙ ap (λ b. b && holds_legs (drop (k + 1) ls)) e) ∙ f
+dear_same : (i : ℕ) (b : Bool) → option_map write_refusal (unless b (CostTooLarge i)) ≡ unless b (cost_too_large i)
+dear_same i true = refl
+dear_same i false = refl
 
-pub holds_not : (ls : List Leg) (k : ℕ) (x : Bool) → k < length ls → holds_leg (get_or ls k no_leg) ≡ false → holds_legs (drop k ls) ≡ x → false ≡ x
-holds_not ls k x h e f = sym (holds_open ls k h ∙ ap (λ b. b && holds_legs (drop (k + 1) ls)) e) ∙ f
+pub first_dear : (N : Net) (n : ℕ) → option_map write_refusal (first_of (dear_fault N) n) ≡ first_of (dear_at N) n
+first_dear N zero = refl
+first_dear N (suc n) =
+    map_or write_refusal (first_of (dear_fault N) n) (dear_fault N n)
+    ∙ ap (λ o. option_or o (option_map write_refusal (dear_fault N n))) (first_dear N n)
+    ∙ ap (option_or (first_of (dear_at N) n)) (dear_same n (holds_legs (legs_at N n)))
 
-pub holds_all : (ls : List Leg) (k : ℕ) (x : Bool) → length ls ≤ k → holds_legs (drop k ls) ≡ x → true ≡ x
-holds_all ls k x h f = sym (at_drop_all holds_legs ls k h) ∙ f
-
-pub dear_none : (N : Net) (i : ℕ) → true ≡ holds_legs (legs_at N i) → dear_at N i ≡ None
-dear_none N i e = ap (λ b. unless b (cost_too_large i)) (sym e)
-
-pub dear_some : (N : Net) (i : ℕ) → false ≡ holds_legs (legs_at N i) → dear_at N i ≡ Some (cost_too_large i)
-dear_some N i e = ap (λ b. unless b (cost_too_large i)) (sym e)
-
--- one more record in a block that begins with `front`
-pub record_more : (front block out t : List ℕ) (f : ℕ → List ℕ) (r : ℕ) → r < 42 → length block ≡ 512 → length (f r) ≡ 12 → t ≡ f r → out ≡ over block (4 + 12 * r) t → take (4 + 12 * r) block ≡ front ++ pile f r → take (4 + 12 * (r + 1)) out ≡ front ++ pile f (r + 1)
-record_more front block out t f r h l w e o i =
+-- one more record, in a part of w bytes, in a block that begins with `front`
+pub record_more : (front block t : List ℕ) (f : ℕ → List ℕ) (r w : ℕ) → r < 42 → length block ≡ 512 → length t ≡ 12 → w ≡ 12 → t ≡ f r → take (4 + 12 * r) block ≡ front ++ pile f r → take (4 + 12 * (r + 1)) (put_mid (4 + 12 * r) w block t) ≡ front ++ pile f (r + 1)
+record_more front block t f r w h l m v e i =
     let n : pile f (r + 1) ≡ pile f r ++ f r = ap (pile f) (add-one r) in
-    let m : length t ≡ 12 = ap length e ∙ w in
-    next block out (front ++ pile f r) (4 + 12 * r) t (4 + 12 * (r + 1)) o i (omega arith) (omega arith)
+    next block (put_mid (4 + 12 * r) w block t) (front ++ pile f r) (4 + 12 * r) t (4 + 12 * (r + 1)) (part_over block (4 + 12 * r) w t (m ∙ sym v)) i (omega arith) (omega arith)
     ∙ append_assoc front (pile f r) t ∙ ap (λ z. front ++ (pile f r ++ z)) e ∙ ap (λ z. front ++ z) (sym n)
 
 -- a finished block of a table
@@ -72,19 +82,17 @@ record_block kind base n k number count r f block out o a b e i =
     (ap (λ z. take (4 + 12 * z) block) (sym e) ∙ i ∙ ap (λ z. start_bytes kind number ++ pile (λ q. f (42 * k + q)) z) (e ∙ b)
     ∙ ap (λ z. start_bytes kind z ++ pile (λ q. f (42 * k + q)) (in_block 42 n k)) a)
 
-pub node_blocks_length : (N : Net) (k : ℕ) → length (pile (node_block_of N) k) ≡ 512 * k
-node_blocks_length N k = length-pile (node_block_of N) 512 k (λ j h. table_block_length 12 42 chunks12 2 1 N.n (node_bytes_at N) (node_each N) j)
-
-pub leg_blocks_length : (N : Net) (k : ℕ) → length (pile (leg_block_of N) k) ≡ 512 * k
-leg_blocks_length N k = length-pile (leg_block_of N) 512 k (λ j h. table_block_length 12 42 chunks12 3 (1 + blocks_for 42 N.n) (leg_count N) (leg_bytes_at N) (leg_each N) j)
-
 -- one more block
-pub block_more : (d out block : List ℕ) (f : ℕ → List ℕ) (base at k w : ℕ) → at ≡ base + 512 * k → at + 512 ≤ length d → length block ≡ 512 → w ≡ 512 → block ≡ f k → length (pile f k) ≡ 512 * k → out ≡ over d base (pile f k) → put_mid at w out block ≡ over d base (pile f (k + 1))
-block_more d out block f base at k w a room l v b n o =
-    let p : put_mid at w out block ≡ over out at block = part_over out at w block (l ∙ sym v) in
-    let m : pile f (k + 1) ≡ pile f k ++ f k = ap (pile f) (add-one k) in
-    grow d out (put_mid at w out block) base (pile f k) block at o p (omega arith) (omega arith)
-    ∙ ap (over d base) (ap (λ z. pile f k ++ z) b ∙ sym m)
+pub block_more : (kind base n : ℕ) (f : ℕ → List ℕ) (d out block : List ℕ) (k w : ℕ) → ((i : ℕ) → length (f i) ≡ 12) → 512 * (base + k) + 512 ≤ length d → w ≡ 512 → block ≡ table_block 42 kind base f n k → out ≡ over d (512 * base) (pile (table_block 42 kind base f n) k) → put_mid (512 * (base + k)) w out block ≡ over d (512 * base) (pile (table_block 42 kind base f n) (k + 1))
+block_more kind base n f d out block k w each room v b o =
+    let t : ℕ → List ℕ = table_block 42 kind base f n in
+    let each_long : (j : ℕ) → length (t j) ≡ 512 = λ j. table_block_length 12 42 chunks12 kind base n f each j in
+    let long : length (pile t k) ≡ 512 * k = length-pile t 512 k (λ j h. each_long j) in
+    let l : length block ≡ 512 = ap length b ∙ each_long k in
+    let p : put_mid (512 * (base + k)) w out block ≡ over out (512 * (base + k)) block = part_over out (512 * (base + k)) w block (l ∙ sym v) in
+    let m : pile t (k + 1) ≡ pile t k ++ t k = ap (pile t) (add-one k) in
+    grow d out _ (512 * base) (pile t k) block (512 * (base + k)) o p (omega arith) (omega arith)
+    ∙ ap (over d (512 * base)) (ap (λ z. pile t k ++ z) b ∙ sym m)
 
 -- places
 pub next_row : (N : Net) (node leg j : ℕ) → node < N.n → leg ≤ length (legs_at N node) → length (legs_at N node) ≤ leg → first_of_node N node + leg ≡ j → j < leg_count N → (node + 1 < N.n) × (first_of_node N (node + 1) + 0 ≡ j)

@@ -8,11 +8,13 @@ ghost use Rattle.image_writer.specs.Write.{told_write, write_answer, written};
 
 use crate::check::{check_costs, count_legs};
 use crate::fault::WriteFault;
-use crate::legs::put_legs;
-use crate::nodes::put_nodes;
-use crate::records::put_header;
+use crate::legs::LegRecords;
+use crate::nodes::NodeRecords;
+use crate::records::header_block;
+use crate::table::Table;
 use blocks::block::BLOCK_LEN;
-use image_format::image_len;
+use blocks::table::blocks_for;
+use image_format::{LEG_KIND, NODE_KIND, image_len};
 use network::network::Network;
 
 fn put_top<N: Network>(net: &N, m: u32, out: &mut [u8])
@@ -20,24 +22,27 @@ fn put_top<N: Network>(net: &N, m: u32, out: &mut [u8])
     requires room { 512 ≤ length out.old }
     ensures { out.new ≡ over out.old 0 (header_block (N.meaning net.now)) }
 {
-    put_header(
-        &mut out[0..BLOCK_LEN],
-        net.node_count(),
-        net.depot(),
-        net.sink(),
-        m,
-    );
+    out[..BLOCK_LEN].copy_from_slice(&header_block(net, m));
 }
 
 fn put_image<N: Network>(net: &N, m: u32, out: &mut [u8])
-    requires readable { Readable (N.meaning net.now) }
     requires counted { m ≡ leg_count (N.meaning net.now) }
     requires room { encoded_size (N.meaning net.now) ≤ length out.old }
     ensures { out.new ≡ over out.old 0 (encoded (N.meaning net.now)) }
 {
+    let nodes = Table {
+        kind: NODE_KIND,
+        base: 1,
+        count: net.node_count() as usize,
+    };
+    let legs = Table {
+        kind: LEG_KIND,
+        base: 1 + blocks_for(nodes.count),
+        count: m as usize,
+    };
     put_top(net, m, out);
-    put_nodes(net, out);
-    put_legs(net, m, out);
+    nodes.put(NodeRecords::of(net), out);
+    legs.put(LegRecords::of(net), out);
 }
 
 // Writes the image of a network, or refuses.
