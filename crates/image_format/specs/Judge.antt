@@ -10,15 +10,15 @@ use Rattle.network.specs.declared.fault.FilePart.TheVariants.{Size, Header, Node
 use Rattle.blocks.specs.Numbers.{u16_at, u32_at, i32_at}
 use Rattle.blocks.specs.Blocks.{block_of, frame_fault, unused_fault}
 use Rattle.blocks.specs.Tables.{blocks_for, in_block, record_of}
-use Rattle.image_format.specs.Layout.{nodes_in, legs_in, node_record, first_leg_of, leg_base, most_cost}
+use Rattle.image_format.specs.Layout.{header_in, nodes_in, legs_in, node_record, first_leg_of, leg_base, most_cost}
 
 -- the content of the header block h
 abbrev pub header_fault : List ℕ → Option FileFault
 header_fault h =
-    option_or (unless (nat_le 1 (u16_at h 4) && nat_le (u16_at h 4) most_nodes) (fault Header 0 4))
-    (option_or (unless (nat_lt (u16_at h 6) (u16_at h 4)) (fault Header 0 6))
-    (option_or (unless (nat_lt (u16_at h 8) (u16_at h 4)) (fault Header 0 8))
-    (option_or (unless (nat_le (u32_at h 10) most_legs) (fault Header 0 10))
+    option_or (unless (nat_le 1 (header_in h).nodes && nat_le (header_in h).nodes most_nodes) (fault Header 0 4))
+    (option_or (unless (nat_lt (header_in h).depot (header_in h).nodes) (fault Header 0 6))
+    (option_or (unless (nat_lt (header_in h).sink (header_in h).nodes) (fault Header 0 8))
+    (option_or (unless (nat_le (header_in h).legs most_legs) (fault Header 0 10))
     (unused_fault h 14 Header 0))))
 
 -- the node record t, which stands at `byte` of block b, and whose first leg lies from low to high

@@ -8,12 +8,15 @@ ghost use Rattle.image_format.specs.RoundTrip.{WrittenIsRead, ReadIsWritten};
 use blocks::block::BLOCK_LEN;
 use blocks::table::blocks_for;
 
-/// The kinds of blocks.
-pub const HEADER_KIND: u8 = 1;
+pub mod header;
 
-pub const NODE_KIND: u8 = 2;
-
-pub const LEG_KIND: u8 = 3;
+/// The kinds of blocks, and the numbers that stand for them in a block.
+#[derive(Clone, Copy, PartialEq, Eq, Debug)]
+pub enum BlockKind {
+    Header = 1,
+    Nodes = 2,
+    Legs = 3,
+}
 
 /// The largest size of a cost in an image.
 pub const MAX_COST: u32 = 10_000_000;
@@ -26,15 +29,11 @@ pub fn image_len(n: u16, m: u32) -> usize
 }
 
 /// The image of a lawful network that an image can hold opens, and means the same network.
-pub fn written_is_read() -> u8
+pub fn written_is_read()
     ensures { WrittenIsRead }
-{
-    0
-}
+{}
 
 /// An image that opens, and whose rows can all be read, is the image of its network.
-pub fn read_is_written() -> u8
+pub fn read_is_written()
     ensures { ReadIsWritten }
-{
-    0
-}
+{}

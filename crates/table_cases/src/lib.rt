@@ -57,9 +57,5 @@ pub fn opened<'a>(
 
 /// The refusal of a record.
 pub fn refused(part: FilePart, byte: u16) -> Result<(), FileFault> {
-    Err(FileFault {
-        part,
-        block: 0,
-        byte,
-    })
+    Err(part.at(0, byte))
 }

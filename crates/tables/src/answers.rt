@@ -8,25 +8,24 @@ use crate::source::TableSource;
 use network::fault::NetworkFault;
 use network::leg::{Leg, Window};
 use network::network::Network;
+use std::ops::Range;
 
 impl TableSource<'_> {
     /// Where the row of node `i` starts among the legs, and the row before it ends.
     fn row_start(&self, i: usize) -> usize
         ensures { result ≡ start_in self.now i }
     {
-        if i < self.nodes.len() {
-            self.nodes[i].first_leg as usize
-        } else {
-            self.legs.len()
-        }
+        self.nodes
+            .get(i)
+            .map_or(self.legs.len(), |node| node.first_leg as usize)
     }
 
     /// Where the row of node `i` starts and ends among the legs.
-    fn span(&self, i: usize) -> (usize, usize)
+    fn span(&self, i: usize) -> Range<usize>
         requires { i < length self.now.nodes.now }
-        ensures { IsSpan self.now i result.0 result.1 }
+        ensures { IsSpan self.now i result.start result.end }
     {
-        (self.row_start(i), self.row_start(i + 1))
+        self.row_start(i)..self.row_start(i + 1)
     }
 
     /// The legs of node `i`.
@@ -36,8 +35,7 @@ impl TableSource<'_> {
         if i as usize >= self.nodes.len() {
             return Err(NetworkFault::NoNode { node: i });
         }
-        let (start, end) = self.span(i as usize);
-        Ok(&self.legs[start..end])
+        Ok(&self.legs[self.span(i as usize)])
     }
 }
 
@@ -63,13 +61,9 @@ impl Network for TableSource<'_> {
     }
 
     fn window(&self, i: u16) -> Result<Window, NetworkFault> {
-        match self.nodes.get(i as usize) {
-            Some(node) => Ok(Window {
-                opens: node.opens,
-                closes: node.closes,
-            }),
-            None => Err(NetworkFault::NoNode { node: i }),
-        }
+        let node = self.nodes.get(i as usize);
+        node.map(|node| node.window())
+            .ok_or(NetworkFault::NoNode { node: i })
     }
 
     fn row_len(&self, i: u16) -> Result<u16, NetworkFault> {
@@ -79,9 +73,8 @@ impl Network for TableSource<'_> {
 
     fn leg(&self, i: u16, k: u16) -> Result<Leg, NetworkFault> {
         let row = self.row(i)?;
-        match row.get(k as usize) {
-            Some(leg) => Ok(*leg),
-            None => Err(NetworkFault::NoLeg { node: i }),
-        }
+        row.get(k as usize)
+            .copied()
+            .ok_or(NetworkFault::NoLeg { node: i })
     }
 }

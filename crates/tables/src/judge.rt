@@ -8,6 +8,7 @@ ghost use Rattle.tables.specs.Tables.{first_leg_of};
 ghost use Rattle.tables.specs.Judge.{fault_at, valid_header, valid_node, valid_leg, header_fault, node_fault, leg_fault, table_fault};
 
 use crate::record::NodeRecord;
+use network::each::check_each;
 use network::fault::{FileFault, FilePart};
 use network::leg::Leg;
 use network::limits::{MAX_LEGS, MAX_NODES, MAX_REACH, MAX_TIME};
@@ -95,26 +96,6 @@ fn judge_leg(legs: &[Leg], nodes: usize, j: usize) -> Result<(), FileFault>
     verdict(is_valid_leg(legs[j], nodes), FilePart::LegTable, j)
 }
 
-fn judge_nodes(nodes: &[NodeRecord], legs: u32) -> Result<(), FileFault>
-    requires { length nodes.now ≤ most_nodes }
-    ensures { result_err result ≡ first_of (node_fault nodes.now legs) (length nodes.now) }
-{
-    for i in 0..nodes.len() {
-        judge_node(nodes, legs, i)?;
-    }
-    Ok(())
-}
-
-fn judge_legs(legs: &[Leg], nodes: usize) -> Result<(), FileFault>
-    requires { length legs.now ≤ most_legs }
-    ensures { result_err result ≡ first_of (leg_fault legs.now nodes) (length legs.now) }
-{
-    for j in 0..legs.len() {
-        judge_leg(legs, nodes, j)?;
-    }
-    Ok(())
-}
-
 /// Refuses tables with their first fault.
 pub(crate) fn judge(
     nodes: &[NodeRecord],
@@ -125,6 +106,6 @@ pub(crate) fn judge(
     ensures { result_err result ≡ table_fault nodes.now legs.now depot sink }
 {
     judge_header(nodes.len(), legs.len(), depot, sink)?;
-    judge_nodes(nodes, legs.len() as u32)?;
-    judge_legs(legs, nodes.len())
+    check_each(nodes.len(), |i| judge_node(nodes, legs.len() as u32, i))?;
+    check_each(legs.len(), |j| judge_leg(legs, nodes.len(), j))
 }

@@ -6,6 +6,6 @@ pub returns : goal.returns
 returns c =
     record {
       node_in = omega arith;
-      legs_are = row_part c.args.self.now c.args.i _ _ c.span-start.ensures;
+      legs_are = row_part c.args.self.now c.args.i _ _ c.span.ensures;
       few = simp length-take (omega arith);
     }
