@@ -4,6 +4,7 @@ use Rattle.std.specs.Prelude.{map}
 use Rattle.std.specs.List.{range_with_len}
 use Rattle.std.specs.Option.{IsSomeAnd}
 use Rattle.std.specs.Iterator.{AlwaysYields, YieldsFirst}
+use Rattle.std.proofs.lemmas.Iterator.Consumers.{YieldsList-from_first}
 use Rattle.image_writer.specs.Order.{records_from, GivesFrom}
 
 pub one_more : (f : ℕ → List ℕ) (n i j : ℕ) → i < n → j ≡ i + 1 → records_from f n i ≡ f i ∷ records_from f n j
@@ -30,3 +31,7 @@ pub some_from : {X : Type 0} (P : X → Type 0) (r : Option X) → IsSomeAnd r P
 some_from P None a = absurd a
 some_from P (Some x) a = refl
 
+
+-- an iterator whose state shows what is left gives it
+pub shown_given : {S : Type 0} {can : S → Type 0} {f : ℕ → List ℕ} {n j : ℕ} {s : S} (left : S → List (List ℕ)) → can s → ((i : ℕ) → length (f i) ≡ 12) → left s ≡ records_from f n j → GivesFrom can (YieldsFirst left) f n j s
+shown_given left k w e = record { callable = k; wide = w; gives = (YieldsList-from_first (λ x. x) left _ e).runs }

@@ -1,14 +1,14 @@
 -- One more record, block, row or leg.
-use Rattle.std.proofs.Common.{◌≡◌, ℕ, zero, suc, ◌+◌, ◌*◌, ◌<◌, ◌≤◌, Bool, true, false, ◌&&◌, leb, List, ◌++◌, length, get_or, take, drop, Some, None, Ok, Err, Option, Result, sym, refl, ap, ◌∙◌, ⊎_elim, add-one, arith}
+use Rattle.std.proofs.Common.{◌≡◌, ℕ, zero, suc, ◌+◌, ◌*◌, ◌<◌, ◌≤◌, Bool, true, false, ◌&&◌, leb, ltb, List, [], ◌∷◌, ◌++◌, length, get_or, take, drop, Some, None, Ok, Err, Option, Result, sym, refl, ap, ◌∙◌, ⊎_elim, add-one, arith, length-append, length-drop}
 use borrow.Rule.Slice.PartMut.{put_mid}
 use Rattle.std.specs.Option.{option_map, option_or}
 use Rattle.std.proofs.lemmas.List.{append_assoc, at_drop_more, at_drop_all}
-use Rattle.std.proofs.lemmas.Bool.{cases_eq, le-leb, lt-leb}
+use Rattle.std.proofs.lemmas.Bool.{cases_eq, cases_lt, cond-true, cond-false, lt-ltb, le-ltb, le-leb, lt-leb}
 use Rattle.std.specs.Result.{result_unwrap_or}
-use Rattle.network.specs.Answers.{length_answer}
+use Rattle.network.specs.Answers.{length_answer, leg_answer, row_leg}
 use Rattle.network.specs.declared.fault.NetworkFault.{NetworkFault}
-use Rattle.network.proofs.Facts.{length_tells, refusal_tells}
-use Rattle.network.specs.Meaning.{Net, Row, legs_row, unreadable_row, legs_of, fault_in, legs_at, no_leg}
+use Rattle.network.proofs.Facts.{at_node_lem, length_tells, refusal_tells}
+use Rattle.network.specs.Meaning.{Net, Row, legs_row, unreadable_row, legs_of, fault_in, legs_at, all_legs, no_leg}
 use Rattle.network.specs.Lawful.{Lawful}
 use Rattle.network.specs.Refusals.{NetworkRefusal, unreadable, told}
 use Rattle.network.specs.Pile.{pile}
@@ -16,16 +16,19 @@ use Rattle.network.specs.declared.leg.Leg.{Leg}
 use Rattle.network.specs.First.{unless, first_of}
 use Rattle.blocks.specs.Tables.{blocks_for, in_block, table_block}
 use Rattle.blocks.specs.Blocks.{finished, start_bytes}
-use Rattle.image_format.specs.Encode.{leg_count, first_of_node, node_bytes_at, leg_bytes_at, encoded, encoded_size}
+use Rattle.image_format.specs.declared.header.Header.{Header}
+use Rattle.image_format.specs.Encode.{header_of, header_bytes, header_block, node_table, leg_table, leg_count, first_of_node, leg_bytes, node_bytes_at, leg_bytes_at, encoded, encoded_size}
 use Rattle.image_format.specs.RoundTrip.{Readable}
-use Rattle.image_format.proofs.Back.{first_grows, first_next, node_each, leg_each}
+use Rattle.image_format.proofs.Back.{header_long, nodes_long, legs_long, first_grows, first_next, node_each, leg_each}
 use Rattle.blocks.proofs.Chunked.{chunks12, table_block_length}
-use Rattle.network.proofs.Piles.{length-pile}
+use Rattle.network.proofs.Piles.{length-pile, pile_item, pile_grows}
 use Rattle.network.proofs.Firsts.{first_more, first_here, first_each}
 use Rattle.blocks.specs.Over.{over}
+use Rattle.image_writer.specs.Order.{records_from}
+use Rattle.image_writer.proofs.Order.{one_more, no_more}
 use Rattle.image_writer.specs.declared.fault.WriteFault.TheVariants.{CostTooLarge}
-use Rattle.image_writer.specs.Write.{unread_at, holds_legs, dear_at, dear_fault, write_refusal, write_fault, answer_by, bytes_by, count_answer, write_answer, written, node_block_of, leg_block_of, cost_too_large, no_room}
-use Rattle.blocks.proofs.Overs.{next, grow, part_over, over_front}
+use Rattle.image_writer.specs.Write.{unread_at, holds_legs, dear_at, dear_fault, write_refusal, write_fault, answer_by, bytes_by, count_answer, write_answer, written, leg_records_from, cost_too_large, no_room}
+use Rattle.blocks.proofs.Overs.{next, grow, part_over, over_front, top_over}
 
 -- rows
 pub total_fits : (N : Net) (i : ℕ) → Lawful N → i < N.n → first_of_node N i + length (legs_at N i) ≤ 20000
@@ -82,28 +85,85 @@ record_block kind base n k number count r f block out o a b e i =
     (ap (λ z. take (4 + 12 * z) block) (sym e) ∙ i ∙ ap (λ z. start_bytes kind number ++ pile (λ q. f (42 * k + q)) z) (e ∙ b)
     ∙ ap (λ z. start_bytes kind z ++ pile (λ q. f (42 * k + q)) (in_block 42 n k)) a)
 
+-- a table of blocks
+table_long : (kind base n : ℕ) (f : ℕ → List ℕ) → ((i : ℕ) → length (f i) ≡ 12) → (k : ℕ) → length (pile (table_block 42 kind base f n) k) ≡ 512 * k
+table_long kind base n f each k = length-pile (table_block 42 kind base f n) 512 k (λ j h. table_block_length 12 42 chunks12 kind base n f each j)
+
 -- one more block
 pub block_more : (kind base n : ℕ) (f : ℕ → List ℕ) (d out block : List ℕ) (k w : ℕ) → ((i : ℕ) → length (f i) ≡ 12) → 512 * (base + k) + 512 ≤ length d → w ≡ 512 → block ≡ table_block 42 kind base f n k → out ≡ over d (512 * base) (pile (table_block 42 kind base f n) k) → put_mid (512 * (base + k)) w out block ≡ over d (512 * base) (pile (table_block 42 kind base f n) (k + 1))
 block_more kind base n f d out block k w each room v b o =
     let t : ℕ → List ℕ = table_block 42 kind base f n in
-    let each_long : (j : ℕ) → length (t j) ≡ 512 = λ j. table_block_length 12 42 chunks12 kind base n f each j in
-    let long : length (pile t k) ≡ 512 * k = length-pile t 512 k (λ j h. each_long j) in
-    let l : length block ≡ 512 = ap length b ∙ each_long k in
+    let long : length (pile t k) ≡ 512 * k = table_long kind base n f each k in
+    let l : length block ≡ 512 = ap length b ∙ table_block_length 12 42 chunks12 kind base n f each k in
     let p : put_mid (512 * (base + k)) w out block ≡ over out (512 * (base + k)) block = part_over out (512 * (base + k)) w block (l ∙ sym v) in
     let m : pile t (k + 1) ≡ pile t k ++ t k = ap (pile t) (add-one k) in
     grow d out _ (512 * base) (pile t k) block (512 * (base + k)) o p (omega arith) (omega arith)
     ∙ ap (over d (512 * base)) (ap (λ z. pile t k ++ z) b ∙ sym m)
 
--- places
-pub next_row : (N : Net) (node leg j : ℕ) → node < N.n → leg ≤ length (legs_at N node) → length (legs_at N node) ≤ leg → first_of_node N node + leg ≡ j → j < leg_count N → (node + 1 < N.n) × (first_of_node N (node + 1) + 0 ≡ j)
-next_row N node leg j h a b e l =
-    let n = first_next N node in (
-      ⊎_elim
-          (λ (q : node + 1 ≡ N.n). let z : first_of_node N (node + 1) ≡ leg_count N = ap (first_of_node N) q in absurd (omega arith))
-          (λ (q : node + 1 ≡ N.n → ⊥). omega arith)
-          (cases_eq (node + 1) N.n),
-      omega arith,
-    )
+-- legs
+row_gives : (i k : ℕ) (row : Row) (l : Leg) → Ok l ≡ row_leg i k row → (k < length (legs_of row)) × (l ≡ get_or (legs_of row) k no_leg)
+row_gives i k (legs_row ls) l e =
+    ⊎_elim
+    (λ (q : k < length ls). let f = e ∙ cond-true (ltb k (length ls)) _ _ (lt-ltb k (length ls) q) in (q, cc))
+    (λ (q : length ls ≤ k). let f = e ∙ cond-false (ltb k (length ls)) _ _ (le-ltb k (length ls) q) in let z : ◌≡◌ {A = ℕ} 0 1 = cc in absurd (omega arith))
+    (cases_lt k (length ls))
+row_gives i k (unreadable_row f) l e = let z : ◌≡◌ {A = ℕ} 0 1 = cc in absurd (omega arith)
+
+row_ends : (i k : ℕ) (row : Row) (r : NetworkRefusal) → Err r ≡ row_leg i k row → length (legs_of row) ≤ k
+row_ends i k (legs_row ls) r e =
+    ⊎_elim
+    (λ (q : k < length ls). let f = e ∙ cond-true (ltb k (length ls)) _ _ (lt-ltb k (length ls) q) in let z : ◌≡◌ {A = ℕ} 0 1 = cc in absurd (omega arith))
+    (λ (q : length ls ≤ k). q)
+    (cases_lt k (length ls))
+row_ends i k (unreadable_row f) r e = omega arith
+
+-- leg k of node i is given: its record comes, and then those of the legs after it
+pub leg_given : (N : Net) (i k : ℕ) (l : Leg) → i < N.n → Ok l ≡ leg_answer N i k → (k < length (legs_at N i)) × (leg_records_from N i k ≡ leg_bytes l ∷ leg_records_from N i (k + 1))
+leg_given N i k l h e =
+    let w = row_gives i k (N.row i) l (e ∙ at_node_lem N i _ h) in
+    let t : get_or (all_legs N) (first_of_node N i + k) no_leg ≡ get_or (legs_at N i) k no_leg = pile_item (legs_at N) N.n i k no_leg h w.0 in
+    let b = first_grows N i h in
+    let x : leg_bytes_at N (first_of_node N i + k) ≡ leg_bytes l = ap leg_bytes (t ∙ sym w.1) in
+    (w.0, one_more (leg_bytes_at N) (leg_count N) (first_of_node N i + k) (first_of_node N i + (k + 1)) (omega arith) (omega arith) ∙ ap (λ z. z ∷ leg_records_from N i (k + 1)) x)
+
+-- no leg k of node i: the legs of the next node follow
+pub row_ended : (N : Net) (i k : ℕ) (r : NetworkRefusal) → i < N.n → k ≤ length (legs_at N i) → Err r ≡ leg_answer N i k → leg_records_from N i k ≡ leg_records_from N (i + 1) 0
+row_ended N i k r h w e =
+    let l = row_ends i k (N.row i) r (e ∙ at_node_lem N i _ h) in
+    let n = first_next N i in
+    let j : first_of_node N i + k ≡ first_of_node N (i + 1) + 0 = omega arith in
+    ap (records_from (leg_bytes_at N) (leg_count N)) j
+
+-- behind the last node none is left
+pub legs_ended : (N : Net) (i k : ℕ) → N.n ≤ i → leg_records_from N i k ≡ []
+legs_ended N i k h =
+    let g : leg_count N ≤ first_of_node N i =
+    ⊎_elim
+    (λ (q : N.n ≡ i). let e = ap (first_of_node N) q in omega arith)
+    (λ (q : N.n ≡ i → ⊥). let p = pile_grows (legs_at N) N.n i (omega arith) in omega arith)
+    (cases_eq N.n i) in
+    no_more (leg_bytes_at N) (leg_count N) (first_of_node N i + k) (omega arith)
+
+-- the parts of an image
+pub top_put : (N : Net) (h : Header) (block d : List ℕ) → h ≡ header_of N → block ≡ finished (start_bytes 1 0 ++ header_bytes h) → 512 ≤ length d → (block ++ drop 512 d ≡ over d 0 (header_block N)) × (length (block ++ drop 512 d) ≡ length d)
+unfolding header_block
+top_put N h block d e b room =
+    let p : block ≡ header_block N = b ∙ ap (λ (z : Header). finished (start_bytes 1 0 ++ header_bytes z)) e in
+    let l : length block ≡ 512 = ap length p ∙ header_long N in
+    (top_over d block 512 l ∙ ap (over d 0) p, simp (length-append, length-drop) (omega arith))
+
+pub tables_put : (N : Net) (d top mid out : List ℕ) → top ≡ over d 0 (header_block N) → mid ≡ over top 512 (node_table N) → out ≡ over mid (512 * (1 + blocks_for 42 N.n)) (leg_table N) → encoded_size N ≤ length d → out ≡ over d 0 (encoded N)
+unfolding encoded
+tables_put N d top mid out t m o room =
+    let P : List ℕ = node_table N in
+    let L : List ℕ = leg_table N in
+    let H : List ℕ = header_block N in
+    let lh : length H ≡ 512 = header_long N in
+    let lp : length P ≡ 512 * blocks_for 42 N.n = nodes_long N in
+    let ll : length L ≡ 512 * blocks_for 42 (leg_count N) = legs_long N in
+    let lhp : length (H ++ P) ≡ length H + length P = length-append H P in
+    let x = grow d top mid 0 H P 512 t m (omega arith) (omega arith) in
+    grow d mid out 0 (H ++ P) L (512 * (1 + blocks_for 42 N.n)) x o (omega arith) (omega arith) ∙ ap (over d 0) (append_assoc H P L)
 
 -- what counting told
 pub answer_tells : {X : Type 0} (o : Option NetworkRefusal) (x y : X) → Ok x ≡ answer_by o y → (o ≡ None) × (x ≡ y)

@@ -2,20 +2,19 @@
 ghost use Rattle.std.specs.Prelude.{◌≡◌, ℕ, ◌+◌, ◌*◌, ◌^◌, ◌<◌, ◌≤◌, List, length};
 ghost use Rattle.blocks.specs.Over.{over};
 ghost use Rattle.blocks.specs.Tables.{blocks_for, in_block, table_block, table_bytes};
-ghost use Rattle.image_writer.specs.Order.{GivesFrom};
+ghost use Rattle.image_writer.specs.Order.{kind_number, GivesFrom};
 
-use blocks::block::{BLOCK_LEN, finish, start};
+use blocks::block::{BLOCK_LEN, Block, finish, start};
 use blocks::table::{WIDTH, blocks_for, in_block};
+use image_format::BlockKind;
 
 /// The bytes of a record.
 pub(crate) type Record = [u8; WIDTH];
 
-pub(crate) type Block = [u8; BLOCK_LEN];
-
 /// A table of an image: the kind of its blocks, the number of the first, and how many records there are.
 #[derive(Drop)]
 pub(crate) struct Table {
-    pub kind: u8,
+    pub kind: BlockKind,
     pub base: usize,
     pub count: usize,
     ghost numbered: { base + blocks_for 42 count < 2 ^ 16 },
@@ -28,10 +27,10 @@ impl Table {
         requires within { k < blocks_for 42 self.now.count }
         requires begins { GivesFrom I.can_next I.next_gives f self.now.count (42 * k) records.old }
         ensures next { GivesFrom I.can_next I.next_gives f self.now.count (42 * k + in_block 42 self.now.count k) records.new }
-        ensures bytes { result ≡ table_block 42 self.now.kind self.now.base f self.now.count k }
+        ensures bytes { result ≡ table_block 42 (kind_number self.now.kind) self.now.base f self.now.count k }
     {
         let mut block = [0; BLOCK_LEN];
-        start(&mut block, self.kind, (self.base + k) as u16);
+        start(&mut block, self.kind as u8, (self.base + k) as u16);
         let count = in_block(self.count, k);
         for r in 0..count {
             let at = 4 + WIDTH * r;
@@ -46,7 +45,7 @@ impl Table {
         ghost f: { ℕ → List ℕ }
         requires begins { GivesFrom I.can_next I.next_gives f self.now.count 0 records }
         requires room { 512 * (self.now.base + blocks_for 42 self.now.count) ≤ length out.old }
-        ensures { out.new ≡ over out.old (512 * self.now.base) (table_bytes 42 self.now.kind self.now.base f self.now.count) }
+        ensures { out.new ≡ over out.old (512 * self.now.base) (table_bytes 42 (kind_number self.now.kind) self.now.base f self.now.count) }
     {
         for k in 0..blocks_for(self.count) {
             let at = BLOCK_LEN * (self.base + k);

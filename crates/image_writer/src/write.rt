@@ -1,8 +1,7 @@
 //! Writes any network as an image.
 ghost use Rattle.std.specs.Prelude.{◌≡◌, ℕ, ◌≤◌, length, take, is_ok, IfOk};
 ghost use Rattle.blocks.specs.Over.{over};
-ghost use Rattle.image_format.specs.Encode.{leg_count, header_block, encoded, encoded_size};
-ghost use Rattle.image_format.specs.RoundTrip.{Readable};
+ghost use Rattle.image_format.specs.Encode.{header_of, encoded, encoded_size};
 ghost use Rattle.image_writer.specs.Promise.{CopyOf, WrittenWhen};
 ghost use Rattle.image_writer.specs.Write.{told_write, write_answer, written};
 
@@ -10,37 +9,28 @@ use crate::check::{check_costs, count_legs};
 use crate::fault::WriteFault;
 use crate::legs::LegRecords;
 use crate::nodes::NodeRecords;
-use crate::records::header_block;
 use crate::table::Table;
-use blocks::block::BLOCK_LEN;
 use blocks::table::blocks_for;
-use image_format::{LEG_KIND, NODE_KIND, image_len};
+use image_format::header::Header;
+use image_format::{BlockKind, image_len};
 use network::network::Network;
 
-fn put_top<N: Network>(net: &N, m: u32, out: &mut [u8])
-    requires counted { m ≡ leg_count (N.meaning net.now) }
-    requires room { 512 ≤ length out.old }
-    ensures { out.new ≡ over out.old 0 (header_block (N.meaning net.now)) }
-{
-    out[..BLOCK_LEN].copy_from_slice(&header_block(net, m));
-}
-
-fn put_image<N: Network>(net: &N, m: u32, out: &mut [u8])
-    requires counted { m ≡ leg_count (N.meaning net.now) }
+fn put_image<N: Network>(net: &N, header: Header, out: &mut [u8])
+    requires header { header ≡ header_of (N.meaning net.now) }
     requires room { encoded_size (N.meaning net.now) ≤ length out.old }
     ensures { out.new ≡ over out.old 0 (encoded (N.meaning net.now)) }
 {
     let nodes = Table {
-        kind: NODE_KIND,
+        kind: BlockKind::Nodes,
         base: 1,
-        count: net.node_count() as usize,
+        count: header.nodes as usize,
     };
     let legs = Table {
-        kind: LEG_KIND,
+        kind: BlockKind::Legs,
         base: 1 + blocks_for(nodes.count),
-        count: m as usize,
+        count: header.legs as usize,
     };
-    put_top(net, m, out);
+    header.store_in(out.first_chunk_mut().unwrap());
     nodes.put(NodeRecords::of(net), out);
     legs.put(LegRecords::of(net), out);
 }
@@ -50,13 +40,18 @@ fn write_image<N: Network>(net: &N, out: &mut [u8]) -> Result<usize, WriteFault>
     ensures answer { told_write result ≡ write_answer (N.meaning net.now) out.old }
     ensures bytes { out.new ≡ written (N.meaning net.now) out.old }
 {
-    let m = count_legs(net)?;
+    let header = Header {
+        nodes: net.node_count(),
+        depot: net.depot(),
+        sink: net.sink(),
+        legs: count_legs(net)?,
+    };
     check_costs(net)?;
-    let size = image_len(net.node_count(), m);
+    let size = image_len(header.nodes, header.legs);
     if out.len() < size {
         return Err(WriteFault::NoRoom);
     }
-    put_image(net, m, out);
+    put_image(net, header, out);
     Ok(size)
 }
 

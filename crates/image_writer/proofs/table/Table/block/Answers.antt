@@ -1,5 +1,6 @@
 use Rattle.std.proofs.Common.{◌≡◌, ℕ, ◌+◌, ◌*◌, refl, ◌∙◌, arith, rules}
 use Rattle.blocks.specs.Blocks.{start_bytes}
+use Rattle.image_writer.specs.Order.{kind_number}
 use Rattle.image_writer.proofs.Order.{next_given, some_from}
 use Rattle.image_writer.proofs.Steps.{record_more, record_block}
 use Rattle.image_writer.proofs.table.Table.block.Goals as goal
@@ -14,7 +15,7 @@ loop-r-preserved g c =
     let r : ℕ = c.loop-r.r in
     let w = rw c.unwrap.ensures at (next_given (42 * k + (r + 1)) _ c.loop-r.invariant.next (omega arith) (omega arith) c.next.ensures.steps c.next.ensures.goes.keeps) in
     record {
-      written = record_more (start_bytes c.args.self.now.kind (c.args.self.now.base + k)) c.loop-r.block _ (λ r. g.f (42 * k + r)) r _ (omega arith) (omega arith) (search rules) (omega arith) (c.copy_from_slice.ensures.after ∙ w.0) c.loop-r.invariant.written;
+      written = record_more (start_bytes (kind_number c.args.self.now.kind) (c.args.self.now.base + k)) c.loop-r.block _ (λ r. g.f (42 * k + r)) r _ (omega arith) (omega arith) (search rules) (omega arith) (c.copy_from_slice.ensures.after ∙ w.0) c.loop-r.invariant.written;
       next = w.1;
     }
 

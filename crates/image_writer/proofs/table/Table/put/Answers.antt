@@ -1,7 +1,7 @@
 use Rattle.std.proofs.Common.{◌≡◌, ℕ, ◌+◌, ◌*◌, min, ◌∙◌, subst, arith, rules}
 use Rattle.blocks.specs.Tables.{in_block}
 use Rattle.blocks.proofs.Overs.{over_none}
-use Rattle.image_writer.specs.Order.{GivesFrom}
+use Rattle.image_writer.specs.Order.{kind_number, GivesFrom}
 use Rattle.image_writer.proofs.Steps.{block_more}
 use Rattle.image_writer.proofs.table.Table.put.Goals as goal
 
@@ -19,6 +19,6 @@ loop-k-preserved g c =
     let k : ℕ = c.loop-k.k in
     let e : 42 * k + in_block 42 n k ≡ min (42 * (k + 1)) n = omega arith in
     record {
-      written = block_more c.args.self.now.kind c.args.self.now.base n g.f c.args.out.now c.loop-k.out _ k _ c.requires.1.0.wide (omega arith) (omega arith) (c.copy_from_slice.ensures.after ∙ c.block.ensures.bytes) c.loop-k.invariant.written;
+      written = block_more (kind_number c.args.self.now.kind) c.args.self.now.base n g.f c.args.out.now c.loop-k.out _ k _ c.requires.1.0.wide (omega arith) (omega arith) (c.copy_from_slice.ensures.after ∙ c.block.ensures.bytes) c.loop-k.invariant.written;
       next = subst (λ (j : ℕ). GivesFrom g.I.Iterator.can_next g.I.Iterator.next_gives g.f n j c.block.new.records) e c.block.ensures.next;
     }
