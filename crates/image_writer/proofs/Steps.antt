@@ -170,66 +170,10 @@ pub answer_tells : {X : Type 0} (o : Option NetworkRefusal) (x y : X) → Ok x �
 answer_tells None x y e = (refl, cc e)
 answer_tells (Some f) x y e = let z : ◌≡◌ {A = ℕ} 0 1 = cc in absurd (omega arith)
 
-refusal_is : {X : Type 0} (o : Option NetworkRefusal) (r : NetworkRefusal) (y : X) → Err r ≡ answer_by o y → o ≡ Some r
+pub refusal_is : {X : Type 0} (o : Option NetworkRefusal) (r : NetworkRefusal) (y : X) → Err r ≡ answer_by o y → o ≡ Some r
 refusal_is None r y e = let z : ◌≡◌ {A = ℕ} 0 1 = cc in absurd (omega arith)
 refusal_is (Some f) r y e = let z : f ≡ r = cc e in ap Some z
 
 pub unmapped : {X Y : Type 0} (f : X → Y) (o : Option X) → option_map f o ≡ None → o ≡ None
 unmapped f None e = refl
 unmapped f (Some x) e = let z : ◌≡◌ {A = ℕ} 0 1 = cc in absurd (omega arith)
-
-pub record Counted (N : Net) (m : ℕ) : Type 0 where
-  pub none : first_of (unread_at N) N.n ≡ None
-  pub readable : Readable N
-  pub count : m ≡ leg_count N
-
-pub counted : (N : Net) (m : ℕ) → Ok m ≡ count_answer N → Counted N m
-counted N m e =
-    let t = answer_tells (first_of (unread_at N) N.n) m (leg_count N) e in
-    record {
-      none = t.0;
-      readable = λ i h. unmapped (unreadable i) (fault_in (N.row i)) (first_each (unread_at N) N.n t.0 i h);
-      count = t.1;
-    }
-
--- the outcomes
-pub record Outcome (N : Net) (d : List ℕ) (a : Result ℕ NetworkRefusal) (out : List ℕ) : Type 0 where
-  pub answer : a ≡ write_answer N d
-  pub bytes : out ≡ written N d
-
-outcome_refused : (N : Net) (d : List ℕ) (r : NetworkRefusal) → write_fault N (length d) ≡ Some r → Outcome N d (Err r) d
-outcome_refused N d r e = record {
-  answer = sym (ap (λ o. answer_by o (encoded_size N)) e);
-  bytes = sym (ap (λ o. bytes_by o (encoded N) d) e);
-}
-
-pub outcome_unread : (N : Net) (d : List ℕ) (r : NetworkRefusal) → Err r ≡ count_answer N → Outcome N d (Err r) d
-unfolding write_fault
-outcome_unread N d r e =
-    outcome_refused N d r
-    (ap (λ o. option_or o (option_or (first_of (dear_at N) N.n) (unless (leb (encoded_size N) (length d)) no_room))) (refusal_is (first_of (unread_at N) N.n) r (leg_count N) e))
-
-pub outcome_dear : (N : Net) (d : List ℕ) (r : NetworkRefusal) → first_of (unread_at N) N.n ≡ None → Some r ≡ first_of (dear_at N) N.n → Outcome N d (Err r) d
-unfolding write_fault
-outcome_dear N d r u e =
-    outcome_refused N d r
-    (ap (λ o. option_or o (option_or (first_of (dear_at N) N.n) (unless (leb (encoded_size N) (length d)) no_room))) u
-    ∙ ap (λ o. option_or o (unless (leb (encoded_size N) (length d)) no_room)) (sym e))
-
-fault_room : (N : Net) (room : ℕ) → first_of (unread_at N) N.n ≡ None → first_of (dear_at N) N.n ≡ None → write_fault N room ≡ unless (leb (encoded_size N) room) no_room
-unfolding write_fault
-fault_room N room u e =
-    ap (λ o. option_or o (option_or (first_of (dear_at N) N.n) (unless (leb (encoded_size N) room) no_room))) u
-    ∙ ap (λ o. option_or o (unless (leb (encoded_size N) room) no_room)) e
-
-pub outcome_short : (N : Net) (d : List ℕ) → first_of (unread_at N) N.n ≡ None → first_of (dear_at N) N.n ≡ None → length d < encoded_size N → Outcome N d (Err no_room) d
-outcome_short N d u e h =
-    outcome_refused N d no_room (fault_room N (length d) u e ∙ ap (λ b. unless b no_room) (lt-leb (encoded_size N) (length d) h))
-
-pub outcome_done : (N : Net) (d out : List ℕ) (size : ℕ) → first_of (unread_at N) N.n ≡ None → first_of (dear_at N) N.n ≡ None → encoded_size N ≤ length d → size ≡ encoded_size N → out ≡ over d 0 (encoded N) → Outcome N d (Ok size) out
-outcome_done N d out size u e h s o =
-    let f : write_fault N (length d) ≡ None = fault_room N (length d) u e ∙ ap (λ b. unless b no_room) (le-leb (encoded_size N) (length d) h) in
-    record {
-      answer = ap Ok s ∙ sym (ap (λ z. answer_by z (encoded_size N)) f);
-      bytes = o ∙ over_front d (encoded N) ∙ sym (ap (λ z. bytes_by z (encoded N) d) f);
-    }

@@ -35,10 +35,13 @@ fn put_image<N: Network>(net: &N, header: Header, out: &mut [u8])
     legs.put(LegRecords::of(net), out);
 }
 
-// Writes the image of a network, or refuses.
-fn write_image<N: Network>(net: &N, out: &mut [u8]) -> Result<usize, WriteFault>
+/// Writes the image of a network and answers how many bytes it takes. The bytes beyond it stay, and a refusal changes
+/// none. What is written opens, and reads back the same network.
+pub fn write<N: Network>(net: &N, out: &mut [u8]) -> Result<usize, WriteFault>
     ensures answer { told_write result ≡ write_answer (N.meaning net.now) out.old }
     ensures bytes { out.new ≡ written (N.meaning net.now) out.old }
+    ensures copy { IfOk result (λ k. CopyOf (N.meaning net.now) (take k out.new)) }
+    ensures when { WrittenWhen (N.meaning net.now) (length out.old) (is_ok result) }
 {
     let header = Header {
         nodes: net.node_count(),
@@ -53,15 +56,4 @@ fn write_image<N: Network>(net: &N, out: &mut [u8]) -> Result<usize, WriteFault>
     }
     put_image(net, header, out);
     Ok(size)
-}
-
-/// Writes the image of a network and answers how many bytes it takes. The bytes beyond it stay, and a refusal changes
-/// none. What is written opens, and reads back the same network.
-pub fn write<N: Network>(net: &N, out: &mut [u8]) -> Result<usize, WriteFault>
-    ensures answer { told_write result ≡ write_answer (N.meaning net.now) out.old }
-    ensures bytes { out.new ≡ written (N.meaning net.now) out.old }
-    ensures copy { IfOk result (λ k. CopyOf (N.meaning net.now) (take k out.new)) }
-    ensures when { WrittenWhen (N.meaning net.now) (length out.old) (is_ok result) }
-{
-    write_image(net, out)
 }
