@@ -1,5 +1,5 @@
 -- Iterators that give the records of a table: one more, and those whose state shows what is left.
-use Rattle.std.proofs.Common.{◌≡◌, ℕ, suc, ◌+◌, ◌-◌, ◌<◌, ◌≤◌, List, [], ◌∷◌, length, Some, None, Option, IfSome, is_some, true, refl, ap, ◌∙◌, sym, subst, arith}
+use Rattle.std.proofs.Common.{◌≡◌, ℕ, suc, ◌+◌, ◌-◌, ◌<◌, ◌≤◌, List, [], ◌∷◌, length, Some, None, Option, IfSome, is_some, true, refl, ap, subst, arith}
 use Rattle.std.specs.Prelude.{map}
 use Rattle.std.specs.List.{range_with_len}
 use Rattle.std.specs.Option.{IsSomeAnd}
@@ -30,7 +30,6 @@ next_given {steps = steps} {f = f} {n = n} {i = i} {s = s} {t = t} j r w h e q k
 pub some_from : {X : Type 0} (P : X → Type 0) (r : Option X) → IsSomeAnd r P → is_some r ≡ true
 some_from P None a = absurd a
 some_from P (Some x) a = refl
-
 
 -- an iterator whose state shows what is left gives it
 pub shown_given : {S : Type 0} {can : S → Type 0} {f : ℕ → List ℕ} {n j : ℕ} {s : S} (left : S → List (List ℕ)) → can s → ((i : ℕ) → length (f i) ≡ 12) → left s ≡ records_from f n j → GivesFrom can (YieldsFirst left) f n j s

@@ -1,9 +1,9 @@
 -- One more record, block, row or leg.
-use Rattle.std.proofs.Common.{◌≡◌, ℕ, zero, suc, ◌+◌, ◌*◌, ◌<◌, ◌≤◌, Bool, true, false, ◌&&◌, leb, ltb, List, [], ◌∷◌, ◌++◌, length, get_or, take, drop, Some, None, Ok, Err, Option, Result, sym, refl, ap, ◌∙◌, ⊎_elim, add-one, arith, length-append, length-drop}
+use Rattle.std.proofs.Common.{◌≡◌, ℕ, zero, suc, ◌+◌, ◌*◌, ◌<◌, ◌≤◌, Bool, true, false, ltb, List, [], ◌∷◌, ◌++◌, length, get_or, take, drop, Some, None, Ok, Err, Option, Result, sym, refl, ap, ◌∙◌, ⊎_elim, add-one, arith, length-append, length-drop}
 use borrow.Rule.Slice.PartMut.{put_mid}
 use Rattle.std.specs.Option.{option_map, option_or}
-use Rattle.std.proofs.lemmas.List.{append_assoc, at_drop_more, at_drop_all}
-use Rattle.std.proofs.lemmas.Bool.{cases_eq, cases_lt, cond-true, cond-false, lt-ltb, le-ltb, le-leb, lt-leb}
+use Rattle.std.proofs.lemmas.List.{append_assoc}
+use Rattle.std.proofs.lemmas.Bool.{cases_eq, cases_lt, cond-true, cond-false, lt-ltb, le-ltb}
 use Rattle.std.specs.Result.{result_unwrap_or}
 use Rattle.network.specs.Answers.{length_answer, leg_answer, row_leg}
 use Rattle.network.specs.declared.fault.NetworkFault.{NetworkFault}
@@ -17,18 +17,17 @@ use Rattle.network.specs.First.{unless, first_of}
 use Rattle.blocks.specs.Tables.{blocks_for, in_block, table_block}
 use Rattle.blocks.specs.Blocks.{finished, start_bytes}
 use Rattle.image_format.specs.declared.header.Header.{Header}
-use Rattle.image_format.specs.Encode.{header_of, header_bytes, header_block, node_table, leg_table, leg_count, first_of_node, leg_bytes, node_bytes_at, leg_bytes_at, encoded, encoded_size}
-use Rattle.image_format.specs.RoundTrip.{Readable}
-use Rattle.image_format.proofs.Back.{header_long, nodes_long, legs_long, first_grows, first_next, node_each, leg_each}
+use Rattle.image_format.specs.Encode.{header_of, header_bytes, header_block, node_table, leg_table, leg_count, first_of_node, leg_bytes, leg_bytes_at, encoded, encoded_size}
+use Rattle.image_format.proofs.Back.{header_long, nodes_long, legs_long, first_grows, first_next}
 use Rattle.blocks.proofs.Chunked.{chunks12, table_block_length}
 use Rattle.network.proofs.Piles.{length-pile, pile_item, pile_grows}
-use Rattle.network.proofs.Firsts.{first_more, first_here, first_each}
+use Rattle.network.proofs.Firsts.{first_more, first_here}
 use Rattle.blocks.specs.Over.{over}
 use Rattle.image_writer.specs.Order.{records_from}
 use Rattle.image_writer.proofs.Order.{one_more, no_more}
 use Rattle.image_writer.specs.declared.fault.WriteFault.TheVariants.{CostTooLarge}
-use Rattle.image_writer.specs.Write.{unread_at, holds_legs, dear_at, dear_fault, write_refusal, write_fault, answer_by, bytes_by, count_answer, write_answer, written, leg_records_from, cost_too_large, no_room}
-use Rattle.blocks.proofs.Overs.{next, grow, part_over, over_front, top_over}
+use Rattle.image_writer.specs.Write.{unread_at, holds_legs, dear_at, dear_fault, write_refusal, answer_by, count_answer, leg_records_from, cost_too_large}
+use Rattle.blocks.proofs.Overs.{next, grow, part_over, top_over}
 
 -- rows
 pub total_fits : (N : Net) (i : ℕ) → Lawful N → i < N.n → first_of_node N i + length (legs_at N i) ≤ 20000

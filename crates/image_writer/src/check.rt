@@ -10,21 +10,19 @@ ghost use Rattle.image_writer.specs.Write.{count_answer, holds_leg, holds_legs, 
 
 use crate::fault::WriteFault;
 use image_format::MAX_COST;
-use network::fault::NetworkFault;
 use network::each::check_each;
+use network::fault::NetworkFault;
 use network::leg::Leg;
 use network::network::Network;
 use network::row::legs_from;
-
 
 /// How many legs there are, once every row is found readable.
 pub(crate) fn count_legs<N: Network>(net: &N) -> Result<u32, NetworkFault>
     ensures { told result ≡ count_answer (N.meaning net.now) }
 {
-    let mut total: u32 = 0;
+    let mut total = 0;
     for i in 0..net.node_count() {
-        let len = net.row_len(i)?;
-        total += len as u32;
+        total += u32::from(net.row_len(i)?);
     }
     Ok(total)
 }
@@ -56,5 +54,8 @@ fn check_row<N: Network>(net: &N, node: u16) -> Result<(), WriteFault>
 pub(crate) fn check_costs<N: Network>(net: &N) -> Result<(), WriteFault>
     ensures { option_map write_refusal (result_err result) ≡ first_of (dear_at (N.meaning net.now)) (N.meaning net.now).n }
 {
-    check_each(net.node_count() as usize, |node| check_row(net, node as u16))
+    check_each(
+        net.node_count() as usize,
+        |node| check_row(net, node as u16),
+    )
 }

@@ -1,4 +1,3 @@
-use Rattle.std.proofs.Common.{List, ℕ, ap, ◌∙◌}
 use Rattle.blocks.specs.Over.{over}
 use Rattle.image_writer.proofs.records.node_record.Goals as goal
 

@@ -1,12 +1,7 @@
-use Rattle.std.proofs.Common.{◌≡◌, ℕ, ◌+◌, ◌*◌, ◌≤◌, List, ◌++◌, length, sym, refl, ap, ◌∙◌, rules, arith, length-append}
-use Rattle.std.proofs.lemmas.List.{append_assoc}
-use Rattle.blocks.specs.Over.{over}
-use Rattle.blocks.specs.Blocks.{finished, start_bytes}
-use Rattle.blocks.specs.Tables.{blocks_for}
-use Rattle.blocks.proofs.Overs.{grow, top_over}
+use Rattle.std.proofs.Common.{◌≡◌, sym, refl, ap, rules, arith}
 use Rattle.image_format.specs.declared.header.Header.{Header}
-use Rattle.image_format.specs.Encode.{header_of, header_bytes, header_block, node_bytes_at, leg_bytes_at, node_table, leg_table, leg_count, encoded}
-use Rattle.image_format.proofs.Back.{header_long, node_each, leg_each}
+use Rattle.image_format.specs.Encode.{node_bytes_at, leg_bytes_at, leg_count}
+use Rattle.image_format.proofs.Back.{node_each, leg_each}
 use Rattle.image_writer.specs.Order.{records_from}
 use Rattle.image_writer.specs.declared.nodes.NodeRecords.{NodeRecords}
 use Rattle.image_writer.specs.declared.legs.LegRecords.{LegRecords}

@@ -1,4 +1,4 @@
-use Rattle.std.proofs.Common.{◌≡◌, List, ℕ, ◌∷◌, ◌+◌, length, ap, sym, ◌∙◌, arith}
+use Rattle.std.proofs.Common.{List, ℕ, ◌∷◌, ◌+◌, length, ap, sym, ◌∙◌, arith}
 use Rattle.image_writer.specs.Write.{leg_records_from}
 use Rattle.image_writer.proofs.Steps.{total_fits, leg_given, row_ended, legs_ended}
 use Rattle.image_writer.proofs.legs.LegRecordsIterator.next.Goals as goal

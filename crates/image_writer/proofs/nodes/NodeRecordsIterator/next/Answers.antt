@@ -1,8 +1,6 @@
-use Rattle.std.proofs.Common.{◌≡◌, ◌+◌, ◌<◌, length, rules, arith}
-use Rattle.network.specs.Meaning.{legs_at}
+use Rattle.std.proofs.Common.{◌≡◌, ◌+◌, ◌<◌, rules, arith}
 use Rattle.image_format.specs.Encode.{first_of_node}
 use Rattle.image_format.proofs.Back.{first_next}
-use Rattle.image_writer.proofs.Order.{one_more}
 use Rattle.image_writer.proofs.Steps.{total_fits, row_count}
 use Rattle.image_writer.proofs.nodes.NodeRecordsIterator.next.Goals as goal
 

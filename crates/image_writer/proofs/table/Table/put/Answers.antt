@@ -1,4 +1,4 @@
-use Rattle.std.proofs.Common.{◌≡◌, ℕ, ◌+◌, ◌*◌, min, ◌∙◌, subst, arith, rules}
+use Rattle.std.proofs.Common.{◌≡◌, ℕ, ◌+◌, ◌*◌, min, ◌∙◌, subst, arith}
 use Rattle.blocks.specs.Tables.{in_block}
 use Rattle.blocks.proofs.Overs.{over_none}
 use Rattle.image_writer.specs.Order.{kind_number, GivesFrom}
