@@ -2,6 +2,8 @@
 use Rattle.std.proofs.Common.{◌≡◌, ℕ, zero, suc, ◌<◌, ◌≤◌, true, leb, List, [], ◌∷◌, length, get_or, take, drop, nat_abs, is_ok, IfOk, Some, None, Ok, Err, Option, Result, sym, refl, ap, ◌∙◌, subst, arith}
 use Rattle.std.specs.Option.{option_map, option_or}
 use Rattle.std.proofs.lemmas.List.{take_at}
+use Rattle.std.proofs.lemmas.List.Elements.{All-from_get_or}
+use Rattle.std.proofs.lemmas.List.Sums.{AllPass-from_list_all, list_all-from_AllPass}
 use Rattle.std.proofs.lemmas.Bool.{and_parts, and_from, leb-true, le-leb, lt-leb, true≢false}
 use Rattle.network.specs.First.{unless, first_of}
 use Rattle.network.specs.Meaning.{Net, Same, fault_in, legs_at, no_leg}
@@ -24,9 +26,7 @@ use Rattle.blocks.proofs.Overs.{over_front}
 use Rattle.image_writer.proofs.Steps.{unmapped, answer_tells, refusal_is}
 
 holds_each : (ls : List Leg) → holds_legs ls ≡ true → (k : ℕ) → k < length ls → nat_abs (get_or ls k no_leg).cost ≤ most_cost
-holds_each [] e k h = absurd (omega arith)
-holds_each (l ∷ ls) e zero h = leb-true _ _ (and_parts (holds_leg l) (holds_legs ls) e).0
-holds_each (l ∷ ls) e (suc k) h = holds_each ls (and_parts (holds_leg l) (holds_legs ls) e).1 k (omega arith)
+holds_each ls e k h = leb-true _ _ (AllPass-from_list_all holds_leg ls e k no_leg h)
 
 pub readable : (N : Net) (room : ℕ) → write_fault N room ≡ None → Readable N
 unfolding write_fault
@@ -58,8 +58,7 @@ copy_made N d out (Err e) w a o = tt
 
 -- and when it is not refused
 pub holds_all : (ls : List Leg) → ((k : ℕ) → k < length ls → nat_abs (get_or ls k no_leg).cost ≤ most_cost) → holds_legs ls ≡ true
-holds_all [] h = refl
-holds_all (l ∷ ls) h = and_from (holds_leg l) (holds_legs ls) (le-leb _ _ (h 0 (omega arith))) (holds_all ls (λ k q. h (suc k) (omega arith)))
+holds_all ls h = list_all-from_AllPass holds_leg ls (All-from_get_or (λ l. holds_leg l ≡ true) ls no_leg (λ k q. le-leb _ _ (h k q)))
 
 pub accepts : (N : Net) (room : ℕ) → Readable N → Holdable N → encoded_size N ≤ room → write_fault N room ≡ None
 unfolding write_fault

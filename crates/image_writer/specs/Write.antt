@@ -74,13 +74,6 @@ written N d = bytes_by (write_fault N (length d)) (encoded N) d
 abbrev pub count_answer : Net → Result ℕ NetworkRefusal
 count_answer N = answer_by (first_of (unread_at N) N.n) (leg_count N)
 
--- node block k and leg block k of the image, counted from 0
-abbrev pub node_block_of : Net → ℕ → List ℕ
-node_block_of N k = table_block 42 2 1 (node_bytes_at N) N.n k
-
-abbrev pub leg_block_of : Net → ℕ → List ℕ
-leg_block_of N k = table_block 42 3 (1 + blocks_for 42 N.n) (leg_bytes_at N) (leg_count N) k
-
 -- the records of the nodes from node i on, and of the legs from leg k of node i on
 abbrev pub node_records_from : Net → ℕ → List (List ℕ)
 node_records_from N i = records_from (node_bytes_at N) N.n i

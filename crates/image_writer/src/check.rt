@@ -1,11 +1,10 @@
 //! Whether a network can be written.
-ghost use Rattle.std.specs.Prelude.{◌≡◌, ℕ, ◌<◌, None};
+ghost use Rattle.std.specs.Prelude.{◌≡◌, ◌<◌};
 ghost use Rattle.std.specs.Option.{option_map};
 ghost use Rattle.std.specs.Result.{result_err};
 ghost use Rattle.network.specs.First.{first_of};
 ghost use Rattle.network.specs.Meaning.{legs_left};
 ghost use Rattle.network.specs.Refusals.{told};
-ghost use Rattle.image_format.specs.RoundTrip.{Readable};
 ghost use Rattle.image_writer.specs.Write.{count_answer, holds_leg, holds_legs, dear_at, dear_fault, write_refusal};
 
 use crate::fault::WriteFault;
@@ -27,18 +26,21 @@ pub(crate) fn count_legs<N: Network>(net: &N) -> Result<u32, NetworkFault>
     Ok(total)
 }
 
+// Whether an image can hold the cost of a leg.
 fn holds_leg(l: Leg) -> bool
     ensures { result ≡ holds_leg l }
 {
     l.cost.unsigned_abs() <= MAX_COST
 }
 
+// And the costs of a row.
 fn holds_row<N: Network>(net: &N, node: u16) -> bool
     ensures { result ≡ holds_legs (legs_left (N.meaning net.now) node 0) }
 {
     legs_from(net, node, 0).all(holds_leg)
 }
 
+// Refuses a node with a cost that an image cannot hold.
 fn check_row<N: Network>(net: &N, node: u16) -> Result<(), WriteFault>
     requires { node < (N.meaning net.now).n }
     ensures { result_err result ≡ dear_fault (N.meaning net.now) node }

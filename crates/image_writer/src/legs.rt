@@ -17,6 +17,7 @@ pub(crate) struct LegRecords<'a, N> {
 }
 
 impl<'a, N: Network> LegRecords<'a, N> {
+    /// From the first node on.
     pub fn of(net: &'a N) -> Self
         ensures { result ≡ record { net = net.entry; node = 0; leg = 0 } }
     {

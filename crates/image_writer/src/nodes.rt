@@ -17,6 +17,7 @@ pub(crate) struct NodeRecords<'a, N> {
 }
 
 impl<'a, N: Network> NodeRecords<'a, N> {
+    /// From the first node on.
     pub fn of(net: &'a N) -> Self
         ensures { result ≡ record { net = net.entry; node = 0; first = 0 } }
     {
