@@ -1,29 +1,47 @@
-use Rattle.std.proofs.Common.{◌≡◌, ℕ, ◌+◌, ◌*◌, List, ◌++◌, length, ap, ◌∙◌, arith, length-append}
-use Rattle.std.proofs.lemmas.List.{append_assoc}
-use Rattle.network.specs.Pile.{pile}
-use Rattle.blocks.specs.Tables.{blocks_for}
-use Rattle.image_format.specs.Encode.{header_block, leg_count, encoded}
-use Rattle.image_writer.specs.Write.{node_block_of, leg_block_of}
-use Rattle.image_format.proofs.Back.{header_long}
-use Rattle.image_writer.proofs.Steps.{node_blocks_length, leg_blocks_length}
-use Rattle.blocks.specs.Over.{over}
-use Rattle.blocks.proofs.Overs.{grow}
+use Rattle.std.proofs.Common.{◌≡◌, sym, refl, ap, rules, arith}
+use Rattle.image_format.specs.declared.header.Header.{Header}
+use Rattle.image_format.specs.Encode.{node_bytes_at, leg_bytes_at, leg_count}
+use Rattle.image_format.proofs.Back.{node_each, leg_each}
+use Rattle.image_writer.specs.Order.{records_from}
+use Rattle.image_writer.specs.declared.nodes.NodeRecords.{NodeRecords}
+use Rattle.image_writer.specs.declared.legs.LegRecords.{LegRecords}
+use Rattle.image_writer.proofs.Order.{shown_given}
+use Rattle.image_writer.proofs.Steps.{top_put, tables_put}
+use Rattle.image_writer.specs.Write.{node_records_from, leg_records_from}
 use Rattle.image_writer.proofs.write.put_image.Goals as goal
 
+pub put-requires : goal.put-requires
+put-requires g c κs within =
+    let M = g.N.Network.meaning in
+    let N = M c.args.net.now in
+    let n : c.args.header.nodes ≡ N.n = ap (λ (h : Header). h.nodes) c.requires.header in
+    let m : c.args.header.legs ≡ leg_count N = ap (λ (h : Header). h.legs) c.requires.header in
+    let t = top_put N c.args.header c.store_in.new.block c.args.out.now c.requires.header c.store_in.ensures (omega arith) in
+    let e = ap (λ (h : Header). records_from (node_bytes_at N) h.nodes 0) (sym c.requires.header) in
+    (search rules, (rw c.of.ensures (shown_given (λ (s : NodeRecords g.row.N.Denot). node_records_from (M s.net.now) s.node) refl (node_each N) e), omega (arith, t.1)))
+
+pub invariant_of-legs : goal.invariant_of-legs
+invariant_of-legs g c =
+    let N = g.N.Network.meaning c.args.net.now in
+    let w = g.N.Network.lawful c.args.net.now in
+    let n : c.args.header.nodes ≡ N.n = ap (λ (h : Header). h.nodes) c.requires.header in
+    let m : c.args.header.legs ≡ leg_count N = ap (λ (h : Header). h.legs) c.requires.header in
+    record { numbered = omega (arith, w.many, w.few) }
+
+pub put-requires-2 : goal.put-requires-2
+put-requires-2 g c κs within =
+    let M = g.N.Network.meaning in
+    let N = M c.args.net.now in
+    let n : c.args.header.nodes ≡ N.n = ap (λ (h : Header). h.nodes) c.requires.header in
+    let m : c.args.header.legs ≡ leg_count N = ap (λ (h : Header). h.legs) c.requires.header in
+    let t = top_put N c.args.header c.store_in.new.block c.args.out.now c.requires.header c.store_in.ensures (omega arith) in
+    let e = ap (λ (h : Header). records_from (leg_bytes_at N) h.legs 0) (sym c.requires.header) in
+    (search rules, (rw c.of-2.ensures (shown_given (λ (s : LegRecords g.row.N.Denot). leg_records_from (M s.net.now) s.node s.leg) (omega arith) (leg_each N) e), omega (arith, t.1)))
+
 pub returns : goal.returns
-unfolding encoded
 returns g c =
     let N = g.N.Network.meaning c.args.net.now in
-    let d = c.args.out.now in
-    let a : ℕ = blocks_for 42 N.n in
-    let b : ℕ = blocks_for 42 (leg_count N) in
-    let H : List ℕ = header_block N in
-    let P : List ℕ = pile (node_block_of N) a in
-    let L : List ℕ = pile (leg_block_of N) b in
-    let lh : length H ≡ 512 = header_long N in
-    let lp : length P ≡ 512 * a = node_blocks_length N a in
-    let ll : length L ≡ 512 * b = leg_blocks_length N b in
-    let lhp : length (H ++ P) ≡ length H + length P = length-append H P in
-    let x = grow d c.put_top.new.out c.put_nodes.new.out 0 H P 512 c.put_top.ensures c.put_nodes.ensures (omega arith) (omega arith) in
-    grow d c.put_nodes.new.out c.put_legs.new.out 0 (H ++ P) L (512 * (1 + a)) x c.put_legs.ensures (omega arith) (omega arith)
-    ∙ ap (over d 0) (append_assoc H P L)
+    let n : c.args.header.nodes ≡ N.n = ap (λ (h : Header). h.nodes) c.requires.header in
+    let m : c.args.header.legs ≡ leg_count N = ap (λ (h : Header). h.legs) c.requires.header in
+    let t = top_put N c.args.header c.store_in.new.block c.args.out.now c.requires.header c.store_in.ensures (omega arith) in
+    tables_put N c.args.out.now _ c.put.new.out c.put-2.new.out t.0 (rw (c.of.ensures, c.requires.header) at c.put.ensures) (rw (c.blocks_for.ensures, c.of-2.ensures, c.requires.header) at c.put-2.ensures) (omega arith)
