@@ -16,10 +16,13 @@ use network::network::Network;
 pub const MAX_PRICE: u32 = 10_000_000;
 
 /// A price for each node of the network below: every leg is cheaper by the price of the node that it leaves.
+///
+/// Each price was accepted, so no cost is cut.
 #[derive(Drop)]
 pub struct Prices<N: Network> {
     pub(crate) below: N,
     pub(crate) prices: [i32; MAX_NODES as usize],
+    ghost accepted: { Accepted prices (N.meaning below) },
 }
 
 // A cost, cut to a reach.
@@ -36,7 +39,6 @@ impl<N: Network> Prices<N> {
     pub fn over(below: N) -> Draft<Prices<N>>
         ensures prices { result.layer.prices ≡ replicate most_nodes (pos 0) }
         ensures below { result.layer.below ≡ below }
-        ensures accepted { Accepted result.layer.prices (N.meaning below) }
     {
         Draft {
             layer: Prices {
@@ -82,7 +84,6 @@ impl<N: Network> Draft<Prices<N>> {
     pub fn price(&mut self, node: u16, price: i32) -> Result<(), LayerFault>
         ensures step { (told result, self.new.layer.prices) ≡ set_price (N.meaning self.old.layer.below) self.old.layer.prices node price }
         ensures below { self.new.layer.below ≡ self.old.layer.below }
-        ensures accepted { Accepted self.old.layer.prices (N.meaning self.old.layer.below) → Accepted self.new.layer.prices (N.meaning self.new.layer.below) }
     {
         known(&self.layer.below, node)?;
         if !self.layer.accepts(price) {
