@@ -3,19 +3,15 @@ ghost use Rattle.std.specs.Prelude.{◌≡◌, ◌<◌, ◌≤◌, MatchResult};
 ghost use Rattle.std.specs.Result.{result_err};
 ghost use Rattle.network.specs.Refusals.{network_refusal};
 ghost use Rattle.blocks.specs.Tables.{blocks_for};
-ghost use Rattle.blocks.specs.Blocks.{block_of};
-ghost use Rattle.image_format.specs.Layout.{legs_in, header_in};
+ghost use Rattle.image_format.specs.Layout.{legs_in};
 ghost use Rattle.image_format.specs.Judge.{leg_block_fault_at};
 ghost use Rattle.image_format.specs.Decode.{image_net, blocks_over, span_fault};
 ghost use Rattle.image_format.proofs.Lawfuls.{image_lawful};
 ghost use Rattle.image.specs.Spans.{IsSpan, IsRefused};
 
-use crate::layout::Layout;
 use crate::source::ImageSource;
-use blocks::block::block_of;
 use blocks::table::{PER_BLOCK, blocks_for};
 use image_format::MAX_COST;
-use image_format::header::Header;
 use network::each::check_each;
 use network::fault::{FileFault, NetworkFault, met_at};
 use network::leg::{Leg, Window};
@@ -35,23 +31,6 @@ fn blocks_over(from: usize, to: usize) -> usize
 }
 
 impl ImageSource<'_> {
-    fn header(&self) -> Header
-        ensures { result ≡ header_in (block_of self.now.image.now 0) }
-    {
-        Header::stored_in(block_of(self.image, 0))
-    }
-
-    fn layout(&self) -> Layout<'_>
-        ensures { result.image.now ≡ self.now.image.now }
-    {
-        let Header { nodes, legs, .. } = self.header();
-        Layout {
-            image: self.image,
-            nodes,
-            legs,
-        }
-    }
-
     // Judges leg block `k`, counted from 0.
     fn leg_block(&self, k: usize) -> Result<(), FileFault>
         requires { k < blocks_for 42 (legs_in self.now.image.now) }
@@ -70,7 +49,10 @@ impl ImageSource<'_> {
         requires { to ≤ legs_in self.now.image.now }
         ensures { result_err result ≡ span_fault self.now.image.now from to }
     {
-        check_each(blocks_over(from, to), |k| self.leg_block(from / PER_BLOCK + k))
+        check_each(
+            blocks_over(from, to),
+            |k| self.leg_block(from / PER_BLOCK + k),
+        )
     }
 
     // Where the row of node `i` stands among the legs, where it can be read.

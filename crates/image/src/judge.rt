@@ -1,11 +1,12 @@
 //! What opening an image judges: its length, its header and its node blocks.
-ghost use Rattle.std.specs.Prelude.{◌≡◌, ℕ, ◌+◌, ◌*◌, ◌/◌, ◌<◌, ◌≤◌, length, IfOk};
+ghost use Rattle.std.specs.Prelude.{◌≡◌, ℕ, ◌+◌, ◌*◌, ◌/◌, ◌<◌, ◌≤◌, length, IfOk, Option};
 ghost use Rattle.std.specs.Result.{result_err};
 ghost use Rattle.network.specs.First.{unless, first_of};
+ghost use Rattle.network.specs.declared.fault.FileFault.{FileFault};
 ghost use Rattle.network.specs.Rows.{least_first, most_first};
 ghost use Rattle.blocks.specs.Tables.{blocks_for, in_block};
 ghost use Rattle.image_format.specs.Layout.{first_leg_of, header_in};
-ghost use Rattle.image_format.specs.Judge.{judge as judgement, header_fault, node_fault_at, node_block_fault};
+ghost use Rattle.image_format.specs.Judge.{judge as judgement, header_fault, node_fault_at, node_block_fault, table_block_fault};
 
 use crate::layout::Layout;
 use blocks::block::{BLOCK_LEN, Block, block_of, frame, unused};
@@ -27,7 +28,10 @@ fn judge_header(block: &Block) -> Result<(), FileFault>
     ensures { result_err result ≡ header_fault block.now }
 {
     let header = Header::stored_in(block);
-    unless(1 <= header.nodes && header.nodes <= MAX_NODES, FilePart::Header.at(0, 4))?;
+    unless(
+        1 <= header.nodes && header.nodes <= MAX_NODES,
+        FilePart::Header.at(0, 4),
+    )?;
     unless(header.depot < header.nodes, FilePart::Header.at(0, 6))?;
     unless(header.sink < header.nodes, FilePart::Header.at(0, 8))?;
     unless(header.legs <= MAX_LEGS, FilePart::Header.at(0, 10))?;
@@ -41,13 +45,34 @@ fn most_first(legs: u32, i: usize) -> u32
     if i == 0 { 0 } else { legs }
 }
 
+/// Judges a block of a table: its frame, each of its records, and that nothing stands after them.
+pub(crate) fn judge_block<F: Fn(usize) -> Result<(), FileFault>>(
+    block: &Block,
+    kind: BlockKind,
+    number: u16,
+    count: usize,
+    judge_record: F,
+) -> Result<(), FileFault>
+    requires few { count ≤ 42 }
+    requires callable { (r : ℕ) → r < count → F.pre judge_record r }
+    ensures { (f : ℕ → Option FileFault) → ((r : ℕ) (x : _) → r < count → F.post judge_record r x → result_err x ≡ f r) → result_err result ≡ table_block_fault block.now kind number count f }
+{
+    frame(block, kind as u8, number)?;
+    check_each(count, judge_record)?;
+    unused(block, 4 + WIDTH * count, kind.part(), number)
+}
+
 impl Layout<'_> {
     // The least that the first leg of node `i` may be.
     fn least_first(&self, i: usize) -> u32
         requires { i < self.now.nodes }
         ensures { result ≡ least_first (first_leg_of self.now.image.now) i }
     {
-        if i == 0 { 0 } else { self.node(i - 1).first_leg }
+        if i == 0 {
+            0
+        } else {
+            self.node(i - 1).first_leg
+        }
     }
 
     // Judges record `r` of node block `k`, counted from 0.
@@ -66,8 +91,14 @@ impl Layout<'_> {
         let part = FilePart::NodeTable;
         let hours = node.window;
         unless(hours.opens <= MAX_TIME, part.at(block, byte))?;
-        unless(hours.opens <= hours.closes && hours.closes <= MAX_TIME, part.at(block, byte + 4))?;
-        unless(low <= node.first_leg && node.first_leg <= high, part.at(block, byte + 8))
+        unless(
+            hours.opens <= hours.closes && hours.closes <= MAX_TIME,
+            part.at(block, byte + 4),
+        )?;
+        unless(
+            low <= node.first_leg && node.first_leg <= high,
+            part.at(block, byte + 8),
+        )
     }
 
     #[tactic(auto, unfolding(image_format::specs::Judge::node_block_fault))]
@@ -75,18 +106,24 @@ impl Layout<'_> {
         requires { k < blocks_for 42 self.now.nodes }
         ensures { result_err result ≡ node_block_fault self.now.image.now self.now.nodes self.now.legs k }
     {
-        let number = 1 + k;
-        let block = block_of(self.image, number);
         let count = in_block(self.nodes as usize, k);
-        frame(block, BlockKind::Nodes as u8, number as u16)?;
-        check_each(count, |r| self.judge_node(k, r))?;
-        unused(block, 4 + WIDTH * count, FilePart::NodeTable, number as u16)
+        let block = block_of(self.image, 1 + k);
+        judge_block(
+            block,
+            BlockKind::Nodes,
+            (1 + k) as u16,
+            count,
+            |r| self.judge_node(k, r),
+        )
     }
 
     fn judge_nodes(&self) -> Result<(), FileFault>
         ensures { result_err result ≡ first_of (node_block_fault self.now.image.now self.now.nodes self.now.legs) (blocks_for 42 self.now.nodes) }
     {
-        check_each(blocks_for(self.nodes as usize), |k| self.judge_node_block(k))
+        check_each(
+            blocks_for(self.nodes as usize),
+            |k| self.judge_node_block(k),
+        )
     }
 }
 

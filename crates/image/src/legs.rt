@@ -5,13 +5,12 @@ ghost use Rattle.blocks.specs.Tables.{blocks_for};
 ghost use Rattle.image_format.specs.Judge.{leg_fault_in, leg_block_fault_at};
 ghost use Rattle.image.specs.Marks.{Marked};
 
-use crate::judge::unless;
+use crate::judge::{judge_block, unless};
 use crate::layout::Layout;
-use blocks::block::{Block, block_of, frame, unused};
+use blocks::block::{Block, block_of};
 use blocks::bytes::{le16, le32, signed32};
 use blocks::table::{WIDTH, blocks_for, in_block, record_of};
 use image_format::{BlockKind, MAX_COST};
-use network::each::check_each;
 use network::fault::{FileFault, FilePart};
 use network::limits::MAX_TIME;
 use std::array;
@@ -32,8 +31,14 @@ impl Layout<'_> {
         let duration = le32(record, 4);
         unless(le16(record, 0) < self.nodes, part.at(number, byte))?;
         unless(le16(record, 2) == 0, part.at(number, byte + 2))?;
-        unless(1 <= duration && duration <= MAX_TIME, part.at(number, byte + 4))?;
-        unless(signed32(record, 8).unsigned_abs() <= MAX_COST, part.at(number, byte + 8))
+        unless(
+            1 <= duration && duration <= MAX_TIME,
+            part.at(number, byte + 4),
+        )?;
+        unless(
+            signed32(record, 8).unsigned_abs() <= MAX_COST,
+            part.at(number, byte + 8),
+        )
     }
 
     /// Judges leg block `k`, counted from 0.
@@ -45,9 +50,9 @@ impl Layout<'_> {
         let number = self.leg_base() + k;
         let block = block_of(self.image, number);
         let count = in_block(self.legs as usize, k);
-        frame(block, BlockKind::Legs as u8, number as u16)?;
-        check_each(count, |r| self.judge_leg(block, number as u16, r))?;
-        unused(block, 4 + WIDTH * count, FilePart::LegTable, number as u16)
+        judge_block(block, BlockKind::Legs, number as u16, count, |r| {
+            self.judge_leg(block, number as u16, r)
+        })
     }
 
     // Whether there is a leg block `k`, counted from 0, and it is sound.
