@@ -143,13 +143,24 @@ legs_ended N i k h =
     (cases_eq N.n i) in
     no_more (leg_bytes_at N) (leg_count N) (first_of_node N i + k) (omega arith)
 
--- the parts of an image
-pub top_put : (N : Net) (h : Header) (block d : List ℕ) → h ≡ header_of N → block ≡ finished (start_bytes 1 0 ++ header_bytes h) → 512 ≤ length d → (block ++ drop 512 d ≡ over d 0 (header_block N)) × (length (block ++ drop 512 d) ≡ length d)
+-- the parts of an image: d once its header is written
+pub record TopPut (N : Net) (h : Header) (block d : List ℕ) : Type 0 where
+  pub nodes : h.nodes ≡ N.n
+  pub legs : h.legs ≡ leg_count N
+  pub over : block ++ drop 512 d ≡ over d 0 (header_block N)
+  pub long : length (block ++ drop 512 d) ≡ length d
+
+pub top_put : (N : Net) (h : Header) (block d : List ℕ) → h ≡ header_of N → block ≡ finished (start_bytes 1 0 ++ header_bytes h) → 512 ≤ length d → TopPut N h block d
 unfolding header_block
 top_put N h block d e b room =
     let p : block ≡ header_block N = b ∙ ap (λ (z : Header). finished (start_bytes 1 0 ++ header_bytes z)) e in
     let l : length block ≡ 512 = ap length p ∙ header_long N in
-    (top_over d block 512 l ∙ ap (over d 0) p, simp (length-append, length-drop) (omega arith))
+    record {
+      nodes = ap (λ (z : Header). z.nodes) e;
+      legs = ap (λ (z : Header). z.legs) e;
+      over = top_over d block 512 l ∙ ap (over d 0) p;
+      long = simp (length-append, length-drop) (omega arith);
+    }
 
 pub tables_put : (N : Net) (d top mid out : List ℕ) → top ≡ over d 0 (header_block N) → mid ≡ over top 512 (node_table N) → out ≡ over mid (512 * (1 + blocks_for 42 N.n)) (leg_table N) → encoded_size N ≤ length d → out ≡ over d 0 (encoded N)
 unfolding encoded

@@ -9,6 +9,7 @@ use crate::table::Record;
 use network::network::Network;
 
 /// The records of a network's legs, row by row, from a leg of a node on.
+// A `flat_map` over the rows would hold a closure, and at such an iterator no ghost value is read.
 #[derive(Drop)]
 pub(crate) struct LegRecords<'a, N> {
     net: &'a N,

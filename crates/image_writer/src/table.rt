@@ -32,6 +32,7 @@ impl Table {
         let mut block = [0; BLOCK_LEN];
         start(&mut block, self.kind as u8, (self.base + k) as u16);
         let count = in_block(self.count, k);
+        // By number, as what is written through `chunks_exact_mut` is not known afterwards; the blocks below likewise.
         for r in 0..count {
             let at = 4 + WIDTH * r;
             block[at..at + WIDTH].copy_from_slice(&records.next().unwrap());

@@ -1,10 +1,10 @@
 //! Tests of writing by example: what is written, what is refused, and what a buffer holds then.
 #![tactic(auto)]
 
+ghost use Rattle.std.specs.Prelude.{◌≤◌};
+
 #[cfg(test)]
 mod tests {
-    ghost use Rattle.std.specs.Prelude.{◌≤◌};
-
     use image::source::ImageSource;
     use image_writer::fault::WriteFault;
     use image_writer::write::write;

@@ -14,34 +14,27 @@ pub put-requires : goal.put-requires
 put-requires g c κs within =
     let M = g.N.Network.meaning in
     let N = M c.args.net.now in
-    let n : c.args.header.nodes ≡ N.n = ap (λ (h : Header). h.nodes) c.requires.header in
-    let m : c.args.header.legs ≡ leg_count N = ap (λ (h : Header). h.legs) c.requires.header in
     let t = top_put N c.args.header c.store_in.new.block c.args.out.now c.requires.header c.store_in.ensures (omega arith) in
     let e = ap (λ (h : Header). records_from (node_bytes_at N) h.nodes 0) (sym c.requires.header) in
-    (search rules, (rw c.of.ensures (shown_given (λ (s : NodeRecords g.row.N.Denot). node_records_from (M s.net.now) s.node) refl (node_each N) e), omega (arith, t.1)))
+    (search rules, (rw c.of.ensures (shown_given (λ (s : NodeRecords g.row.N.Denot). node_records_from (M s.net.now) s.node) refl (node_each N) e), omega (arith, t.nodes, t.legs, t.long)))
 
 pub invariant_of-legs : goal.invariant_of-legs
 invariant_of-legs g c =
     let N = g.N.Network.meaning c.args.net.now in
     let w = g.N.Network.lawful c.args.net.now in
-    let n : c.args.header.nodes ≡ N.n = ap (λ (h : Header). h.nodes) c.requires.header in
-    let m : c.args.header.legs ≡ leg_count N = ap (λ (h : Header). h.legs) c.requires.header in
-    record { numbered = omega (arith, w.many, w.few) }
+    let t = top_put N c.args.header c.store_in.new.block c.args.out.now c.requires.header c.store_in.ensures (omega arith) in
+    record { numbered = omega (arith, t.nodes, t.legs, w.many, w.few) }
 
 pub put-requires-2 : goal.put-requires-2
 put-requires-2 g c κs within =
     let M = g.N.Network.meaning in
     let N = M c.args.net.now in
-    let n : c.args.header.nodes ≡ N.n = ap (λ (h : Header). h.nodes) c.requires.header in
-    let m : c.args.header.legs ≡ leg_count N = ap (λ (h : Header). h.legs) c.requires.header in
     let t = top_put N c.args.header c.store_in.new.block c.args.out.now c.requires.header c.store_in.ensures (omega arith) in
     let e = ap (λ (h : Header). records_from (leg_bytes_at N) h.legs 0) (sym c.requires.header) in
-    (search rules, (rw c.of-2.ensures (shown_given (λ (s : LegRecords g.row.N.Denot). leg_records_from (M s.net.now) s.node s.leg) (omega arith) (leg_each N) e), omega (arith, t.1)))
+    (search rules, (rw c.of-2.ensures (shown_given (λ (s : LegRecords g.row.N.Denot). leg_records_from (M s.net.now) s.node s.leg) (omega arith) (leg_each N) e), omega (arith, t.nodes, t.legs, t.long)))
 
 pub returns : goal.returns
 returns g c =
     let N = g.N.Network.meaning c.args.net.now in
-    let n : c.args.header.nodes ≡ N.n = ap (λ (h : Header). h.nodes) c.requires.header in
-    let m : c.args.header.legs ≡ leg_count N = ap (λ (h : Header). h.legs) c.requires.header in
     let t = top_put N c.args.header c.store_in.new.block c.args.out.now c.requires.header c.store_in.ensures (omega arith) in
-    tables_put N c.args.out.now _ c.put.new.out c.put-2.new.out t.0 (rw (c.of.ensures, c.requires.header) at c.put.ensures) (rw (c.blocks_for.ensures, c.of-2.ensures, c.requires.header) at c.put-2.ensures) (omega arith)
+    tables_put N c.args.out.now _ c.put.new.out c.put-2.new.out t.over (rw (c.of.ensures, c.requires.header) at c.put.ensures) (rw (c.blocks_for.ensures, c.of-2.ensures, c.requires.header) at c.put-2.ensures) (omega arith)
