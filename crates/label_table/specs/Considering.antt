@@ -19,7 +19,7 @@ pub record Joined (less more : List ℕ) (e e' : ℕ) : Type 0 where
   pub counts : (x : ℕ) → times x more ≡ times x less + cond (nat_le e x && nat_lt x e') 1 0
   pub len : length more + e ≡ length less + e'
 
--- the same rows are lent, more of them are entered, and the new entries wait in the agenda
+-- the same rows are lent still, no entry is gone, and the new entries wait in the agenda
 pub record EntersMore {L : Type 0} (old new : LabelTable L) (less more : List ℕ) : Type 0 where
   pub same_reference : new.rows.ghost_name ≡ old.rows.ghost_name
   pub len : length new.rows.now ≡ length old.rows.now

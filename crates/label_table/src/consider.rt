@@ -49,7 +49,7 @@ impl<'t, L: Label> LabelTable<'t, L> {
         ensures rows { self.new.rows.now ≡ map (lowered L.kind node label.now) (take self.old.entered self.old.rows.now) ++ drop self.old.entered self.old.rows.now }
     {
         let rows = &mut *self.rows;
-        // by number: un-standing goes over the entries with their numbers
+        // by their numbers, as the project wants it
         for i in 0..self.entered as usize {
             rows[i] = rows[i].lowered(node, label);
         }

@@ -5,3 +5,5 @@ pub mod consider;
 pub mod fault;
 pub mod row;
 pub mod table;
+#[cfg(test)]
+mod tests;

@@ -14,7 +14,7 @@ pub struct LabelTable<'t, L> {
 }
 
 /// An entry, with its node and its label.
-#[derive(Clone, Copy)]
+#[derive(Clone, Copy, PartialEq, Eq, Debug)]
 pub struct Departure<L> {
     pub entry: u16,
     pub node: u16,

@@ -1,7 +1,7 @@
 -- What is certain of a leg that is there.
-use Rattle.std.proofs.Common.{◌≡◌, ℕ, ◌<◌, List, length, get_or, Some, Ok, arith}
+use Rattle.std.proofs.Common.{◌≡◌, ℕ, ◌<◌, Some, Ok}
 use Rattle.std.specs.List.{slice_get}
-use Rattle.std.proofs.lemmas.Option.{slice_get-get_or, slice_get_past}
+use Rattle.std.proofs.lemmas.Option.{slice_get_within, get_or_from_slice_get}
 use Rattle.network.specs.Meaning.{Net, legs_at, no_leg}
 use Rattle.network.specs.Lawful.{Lawful, LawfulLeg}
 use Rattle.network.specs.Answers.{leg_answer}
@@ -17,15 +17,10 @@ told_lawful N law i k g e =
     let t = leg_tells N i k g e in
     rw t.2 (law.rows i t.0 k t.1)
 
--- a place of a list, and what stands there
-pub at_place : {X : Type 0} (xs : List X) (k : ℕ) (x d : X) → slice_get xs k ≡ Some x → (k < length xs) × (x ≡ get_or xs k d)
-at_place xs k x d e = grind (arith, slice_get-get_or xs k d, slice_get_past xs k)
-
 -- a leg that stands in one, and the step along it
 pub leg_lawful : (N : Net) → Lawful N → (i : ℕ) → i < N.n → (k : ℕ) (g : Leg) → slice_get (legs_at N i) k ≡ Some g → LawfulLeg N.n N.reach g
 leg_lawful N law i h k g e =
-    let t = at_place (legs_at N i) k g no_leg e in
-    rw t.1 (law.rows i h k t.0)
+    rw (← get_or_from_slice_get (legs_at N i) k g no_leg e) (law.rows i h k (slice_get_within (legs_at N i) k g e))
 
 pub step_lawful : (N : Net) → Lawful N → (i : ℕ) → i < N.n → (k : ℕ) (g : Leg) → slice_get (legs_at N i) k ≡ Some g → LawfulStep (step_of N g)
 step_lawful N law i h k g e =
