@@ -1,5 +1,5 @@
 -- A heap in a table.
-use Rattle.std.specs.Prelude.{◌≡◌, ℕ, ◌+◌, ◌-◌, ◌*◌, ◌/◌, ◌<◌, ◌≤◌, Bool, false, List, Option, Some, None, ◌≢◌, slice_index_or}
+use Rattle.std.specs.Prelude.{◌≡◌, ℕ, ◌-◌, ◌/◌, ◌<◌, Bool, false, List, ◌≢◌, slice_index_or}
 use Rattle.agendas.specs.declared.timed.Timed.{Timed}
 use Rattle.agendas.specs.Timeds.{no_entry}
 
@@ -33,8 +33,3 @@ module _ {X : Type 0} (sooner : X → X → Bool) (f : ℕ → X) (n : ℕ) wher
   abbrev pub Child : ℕ → ℕ → Type 0
   Child i c =
       (0 < c) × (c < n) × (up c ≡ i) × ((k : ℕ) → 0 < k → k < n → up k ≡ i → sooner (f k) (f c) ≡ false)
-
-  -- the soonest below i, or none where none is
-  abbrev pub ChildSays : ℕ → Option ℕ → Type 0
-  ChildSays i None = n ≤ 2 * i + 1
-  ChildSays i (Some c) = Child i c

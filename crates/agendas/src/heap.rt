@@ -1,7 +1,7 @@
 //! A binary heap: what stands at place `i` stands above the places `2 i + 1` and `2 i + 2`.
-ghost use Rattle.std.specs.Prelude.{◌≡◌, ◌+◌, ◌-◌, ◌<◌, ◌≤◌, SomeIff, length, take, IsPermutation};
+ghost use Rattle.std.specs.Prelude.{◌≡◌, ◌+◌, ◌-◌, ◌*◌, ◌<◌, ◌≤◌, SomeIff, MatchOption, length, take, IsPermutation};
 ghost use Rattle.agendas.specs.Timeds.{sooner, JoinedBy, Least};
-ghost use Rattle.agendas.specs.Heaps.{at, up, Heap, HeapUp, HeapDown, ChildSays};
+ghost use Rattle.agendas.specs.Heaps.{at, up, Heap, HeapUp, HeapDown, Child};
 
 use crate::timed::Timed;
 
@@ -15,7 +15,7 @@ fn above(i: usize) -> Option<usize>
 /// The sooner of the places below `i`, where there is one.
 fn child(heap: &[Timed], i: usize) -> Option<usize>
     requires { i ≤ length heap.now }
-    ensures { ChildSays sooner (at heap.now) (length heap.now) i result }
+    ensures { MatchOption result (length heap.now ≤ 2 * i + 1) (Child sooner (at heap.now) (length heap.now) i) }
 {
     let left = 2 * i + 1;
     let right = left + 1;

@@ -1,9 +1,9 @@
 //! Agendas by example.
-use crate::agenda::*;
-use crate::fault::*;
-use crate::first_in::*;
-use crate::time_first::*;
-use crate::timed::*;
+use crate::agenda::Agenda;
+use crate::fault::AgendaFault;
+use crate::first_in::FirstIn;
+use crate::time_first::TimeFirst;
+use crate::timed::Timed;
 use std::process::Abort;
 
 fn unused() -> Timed {

@@ -18,4 +18,4 @@ returns-clause-least c =
     let t = c.args.heap.now in
     let n = length t - 1 in
     let e : at (c.sink.new.heap ++ drop n c.swap.new.self) n ≡ at t 0 = search (rules, places) ∙ c.swap.ensures.by_index.1 no_entry in
-    λ k d h. rw (get_or_default t k d no_entry h, e) (root_least sooner_ranks no_entry t (length t) k h h c.requires.heap)
+    λ k d h. rw (get_or_default t k d no_entry h, e) (root_least sooner_ranks t (length t) k h h c.requires.heap)

@@ -2,8 +2,7 @@ use Rattle.std.proofs.Common.{arith}
 use Rattle.std.proofs.lemmas.Grind.{common_steps}
 use Rattle.std.proofs.lemmas.Int.{to_z-of_z}
 use Rattle.agendas.specs.Timeds.{timed}
-use Rattle.agendas.proofs.Piles.{one_more_entries}
-use Rattle.agendas.proofs.Piles.{next_joins}
+use Rattle.agendas.proofs.Piles.{one_more_entries, next_joins}
 use Rattle.agendas.proofs.time_first.TimeFirstAgenda.put.Goals as goal
 
 pub returns-clause-order : goal.returns-clause-order
