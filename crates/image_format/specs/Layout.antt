@@ -4,7 +4,22 @@ use Rattle.network.specs.Rows.{start_of}
 use Rattle.blocks.specs.Numbers.{u16_at, u32_at}
 use Rattle.blocks.specs.Blocks.{block_of}
 use Rattle.blocks.specs.Tables.{blocks_for, record_at}
+use Rattle.network.specs.declared.fault.FilePart.{FilePart}
+use Rattle.network.specs.declared.fault.FilePart.TheVariants.{Header as HeaderPart, NodeTable, LegTable}
+use Rattle.image_format.specs.declared.BlockKind.{BlockKind}
+use Rattle.image_format.specs.declared.BlockKind.TheVariants.{Header as HeaderKind, Nodes, Legs}
 use Rattle.image_format.specs.declared.header.Header.{Header}
+
+-- the number that stands for a kind in a block, and the part of the file that blocks of the kind hold
+abbrev pub kind_number : BlockKind → ℕ
+kind_number HeaderKind = 1
+kind_number Nodes = 2
+kind_number Legs = 3
+
+abbrev pub kind_part : BlockKind → FilePart
+kind_part HeaderKind = HeaderPart
+kind_part Nodes = NodeTable
+kind_part Legs = LegTable
 
 -- what the header block h counts and names
 abbrev pub header_in : List ℕ → Header

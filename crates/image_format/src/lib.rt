@@ -2,11 +2,13 @@
 #![tactic(auto)]
 
 ghost use Rattle.std.specs.Prelude.{◌≡◌, ◌*◌};
+ghost use Rattle.image_format.specs.Layout.{kind_part};
 ghost use Rattle.image_format.specs.Judge.{block_count};
 ghost use Rattle.image_format.specs.RoundTrip.{WrittenIsRead, ReadIsWritten};
 
 use blocks::block::BLOCK_LEN;
 use blocks::table::blocks_for;
+use network::fault::FilePart;
 
 pub mod header;
 
@@ -16,6 +18,19 @@ pub enum BlockKind {
     Header = 1,
     Nodes = 2,
     Legs = 3,
+}
+
+impl BlockKind {
+    /// The part of the file that blocks of the kind hold.
+    pub fn part(self) -> FilePart
+        ensures { result ≡ kind_part self }
+    {
+        match self {
+            BlockKind::Header => FilePart::Header,
+            BlockKind::Nodes => FilePart::NodeTable,
+            BlockKind::Legs => FilePart::LegTable,
+        }
+    }
 }
 
 /// The largest size of a cost in an image.
