@@ -1,10 +1,10 @@
 -- What a write tells in the words of networks.
-use Rattle.std.proofs.Common.{◌≡◌, ℕ, zero, suc, ◌<◌, ◌≤◌, true, leb, List, [], ◌∷◌, length, get_or, take, drop, nat_abs, is_ok, IfOk, Some, None, Ok, Err, Option, Result, sym, refl, ap, ◌∙◌, subst, arith}
+use Rattle.std.proofs.Common.{◌≡◌, ℕ, ◌<◌, ◌≤◌, true, leb, List, length, get_or, take, drop, nat_abs, is_ok, IfOk, Some, None, Ok, Err, Option, Result, sym, refl, ap, ◌∙◌, subst, arith}
 use Rattle.std.specs.Option.{option_map, option_or}
 use Rattle.std.proofs.lemmas.List.{take_at}
 use Rattle.std.proofs.lemmas.List.Elements.{All-from_get_or}
 use Rattle.std.proofs.lemmas.List.Sums.{AllPass-from_list_all, list_all-from_AllPass}
-use Rattle.std.proofs.lemmas.Bool.{and_parts, and_from, leb-true, le-leb, lt-leb, true≢false}
+use Rattle.std.proofs.lemmas.Bool.{leb-true, le-leb, lt-leb, true≢false}
 use Rattle.network.specs.First.{unless, first_of}
 use Rattle.network.specs.Meaning.{Net, Same, fault_in, legs_at, no_leg}
 use Rattle.network.specs.Lawful.{Lawful}
@@ -95,6 +95,19 @@ pub record Outcome (N : Net) (d : List ℕ) (r : Result ℕ WriteFault) (out : L
   pub copy : IfOk r (λ k. CopyOf N (take k out))
   pub when : WrittenWhen N (length d) (is_ok r)
 
+-- the fault once a row is not read, once all are, and once every cost holds too
+module _ (N : Net) (room : ℕ) where
+  pub unread_first : (x : NetworkRefusal) → first_of (unread_at N) N.n ≡ Some x → write_fault N room ≡ Some x
+  unfolding write_fault
+  unread_first x u = ap (λ o. option_or o (option_or (first_of (dear_at N) N.n) (unless (leb (encoded_size N) room) no_room))) u
+
+  pub costs_next : first_of (unread_at N) N.n ≡ None → write_fault N room ≡ option_or (first_of (dear_at N) N.n) (unless (leb (encoded_size N) room) no_room)
+  unfolding write_fault
+  costs_next u = ap (λ o. option_or o (option_or (first_of (dear_at N) N.n) (unless (leb (encoded_size N) room) no_room))) u
+
+  pub room_next : first_of (unread_at N) N.n ≡ None → first_of (dear_at N) N.n ≡ None → write_fault N room ≡ unless (leb (encoded_size N) room) no_room
+  room_next u e = costs_next u ∙ ap (λ o. option_or o (unless (leb (encoded_size N) room) no_room)) e
+
 module _ (N : Net) (d : List ℕ) (w : Lawful N) where
   promised : (r : Result ℕ WriteFault) (out : List ℕ) → told_write r ≡ write_answer N d → out ≡ written N d → Outcome N d r out
   promised r out a o = record { answer = a; bytes = o; copy = copy_made N d out r w a o; when = when N d r a }
@@ -103,30 +116,18 @@ module _ (N : Net) (d : List ℕ) (w : Lawful N) where
   refused r x t e = promised r d (t ∙ sym (ap (λ o. answer_by o (encoded_size N)) e)) (sym (ap (λ o. bytes_by o (encoded N) d) e))
 
   pub unread : (r : Result ℕ WriteFault) (x : NetworkRefusal) → told_write r ≡ Err x → Err x ≡ count_answer N → Outcome N d r d
-  unfolding write_fault
-  unread r x t e =
-      refused r x t
-      (ap (λ o. option_or o (option_or (first_of (dear_at N) N.n) (unless (leb (encoded_size N) (length d)) no_room))) (refusal_is (first_of (unread_at N) N.n) x (leg_count N) e))
+  unread r x t e = refused r x t (unread_first N (length d) x (refusal_is (first_of (unread_at N) N.n) x (leg_count N) e))
 
-  -- once every row is read
   module _ (u : first_of (unread_at N) N.n ≡ None) where
-    costs_next : write_fault N (length d) ≡ option_or (first_of (dear_at N) N.n) (unless (leb (encoded_size N) (length d)) no_room)
-    unfolding write_fault
-    costs_next = ap (λ o. option_or o (option_or (first_of (dear_at N) N.n) (unless (leb (encoded_size N) (length d)) no_room))) u
-
     pub dear : (r : Result ℕ WriteFault) (x : NetworkRefusal) → told_write r ≡ Err x → Some x ≡ first_of (dear_at N) N.n → Outcome N d r d
-    dear r x t e = refused r x t (costs_next ∙ ap (λ o. option_or o (unless (leb (encoded_size N) (length d)) no_room)) (sym e))
+    dear r x t e = refused r x t (costs_next N (length d) u ∙ ap (λ o. option_or o (unless (leb (encoded_size N) (length d)) no_room)) (sym e))
 
-    -- and every cost holds
     module _ (e : None ≡ first_of (dear_at N) N.n) where
-      room_next : write_fault N (length d) ≡ unless (leb (encoded_size N) (length d)) no_room
-      room_next = costs_next ∙ ap (λ o. option_or o (unless (leb (encoded_size N) (length d)) no_room)) (sym e)
-
       pub short : length d < encoded_size N → Outcome N d (Err NoRoom) d
-      short h = refused (Err NoRoom) no_room refl (room_next ∙ ap (λ b. unless b no_room) (lt-leb (encoded_size N) (length d) h))
+      short h = refused (Err NoRoom) no_room refl (room_next N (length d) u (sym e) ∙ ap (λ b. unless b no_room) (lt-leb (encoded_size N) (length d) h))
 
       pub done : (out : List ℕ) (size : ℕ) → encoded_size N ≤ length d → size ≡ encoded_size N → out ≡ over d 0 (encoded N) → Outcome N d (Ok size) out
       done out size h s o =
-          let f : write_fault N (length d) ≡ None = room_next ∙ ap (λ b. unless b no_room) (le-leb (encoded_size N) (length d) h) in
+          let f : write_fault N (length d) ≡ None = room_next N (length d) u (sym e) ∙ ap (λ b. unless b no_room) (le-leb (encoded_size N) (length d) h) in
           promised (Ok size) out (ap Ok s ∙ sym (ap (λ z. answer_by z (encoded_size N)) f))
           (o ∙ over_front d (encoded N) ∙ sym (ap (λ z. bytes_by z (encoded N) d) f))

@@ -6,7 +6,6 @@ use Rattle.network.specs.First.{unless, first_of}
 use Rattle.network.specs.Meaning.{Net, fault_in, legs_at}
 use Rattle.network.specs.Refusals.{NetworkRefusal, no_file, network_refusal, unreadable}
 use Rattle.network.specs.declared.leg.Leg.{Leg}
-use Rattle.blocks.specs.Tables.{blocks_for, table_block}
 use Rattle.image_format.specs.Layout.{most_cost}
 use Rattle.image_format.specs.Encode.{encoded, encoded_size, leg_count, first_of_node, node_bytes_at, leg_bytes_at}
 use Rattle.image_writer.specs.Order.{records_from}

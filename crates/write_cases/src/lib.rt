@@ -100,7 +100,10 @@ mod tests {
         let mut buffer = [0u8; 1536];
         let mut copied = ImageSource::built_in();
         copy(&source, &mut buffer, &mut copied)?;
-        assert_eq!(rt; (copied.node_count(), copied.depot(), copied.sink()), (3, 1, 2));
+        assert_eq!(rt;
+            (copied.node_count(), copied.depot(), copied.sink()),
+            (3, 1, 2)
+        );
         assert_eq!(rt;
             copied.window(2)?,
             Window {

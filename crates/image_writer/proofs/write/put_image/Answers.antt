@@ -1,6 +1,6 @@
-use Rattle.std.proofs.Common.{◌≡◌, sym, refl, ap, rules, arith}
+use Rattle.std.proofs.Common.{sym, refl, ap, rules, arith}
 use Rattle.image_format.specs.declared.header.Header.{Header}
-use Rattle.image_format.specs.Encode.{node_bytes_at, leg_bytes_at, leg_count}
+use Rattle.image_format.specs.Encode.{node_bytes_at, leg_bytes_at}
 use Rattle.image_format.proofs.Back.{node_each, leg_each}
 use Rattle.image_writer.specs.Order.{records_from}
 use Rattle.image_writer.specs.declared.nodes.NodeRecords.{NodeRecords}
