@@ -34,7 +34,7 @@ impl<L: Label> Departure<L> {
     }
 }
 
-impl<'t, L: Label> LabelTable<'t, L> {
+impl<L: Label> LabelTable<'_, L> {
     /// The rows that are entered.
     fn entries(&self) -> &[Row<L>]
         ensures { result.now ≡ take self.now.entered self.now.rows.now }
@@ -87,7 +87,7 @@ impl<'t, L: Label> LabelTable<'t, L> {
         ensures keeps { A.limit agenda.new ≡ A.limit agenda.old }
     {
         let len = self.rows.len();
-        'legs: for k in legs.start..legs.end {
+        'legs: for k in legs {
             let Some(new) = from.row_along(net, k) else {
                 continue 'legs;
             };
