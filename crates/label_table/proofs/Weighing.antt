@@ -47,8 +47,8 @@ pub record Left {L : Type 0} (N : Net) (K : Kind L) (room : ℕ) (d : Departure 
 
 -- along one leg more
 module _ {L : Type 0} {N : Net} {K : Kind L} {room : ℕ} {d : Departure L} {k end : ℕ} {e held : ℕ} {row : Row L} {rows rows' : List (Row L)} {t : ℕ × Option RunRefusal × List (Row L)} where
-  pub next_leg : Left N K room d end k e held rows t → k < end → end ≤ length (legs_at N d.node) → Some row ≡ row_along N K d k (get_or (legs_at N d.node) k no_leg) → {e' held' : ℕ} (v : Verdict) → considered K room e held row rows ≡ (Ok v, rows') → e + added v ≡ e' → held + added v ≡ held' → Left N K room d end (k + 1) e' held' rows' t
-  next_leg r h n x v w p q = record { is = r.is ∙ rw (next_of (legs_at N d.node) k end h n, along, ← x, w, ← x, w, p, q) }
+  pub next_leg : Left N K room d end k e held rows t → k < end → end ≤ length (legs_at N d.node) → Some row ≡ row_along N K d k (get_or (legs_at N d.node) k no_leg) → {k' e' held' : ℕ} (v : Verdict) → considered K room e held row rows ≡ (Ok v, rows') → k + 1 ≡ k' → e + added v ≡ e' → held + added v ≡ held' → Left N K room d end k' e' held' rows' t
+  next_leg r h n x v w o p q = record { is = r.is ∙ rw (next_of (legs_at N d.node) k end h n, along, ← x, w, ← x, w, o, p, q) }
 
   pub last_leg : Left N K room d end k e held rows t → k < end → end ≤ length (legs_at N d.node) → Some row ≡ row_along N K d k (get_or (legs_at N d.node) k no_leg) → (f : RunRefusal) → considered K room e held row rows ≡ (Err f, rows') → (e, Some f, rows') ≡ t
   last_leg r h n x f w = sym (r.is ∙ rw (next_of (legs_at N d.node) k end h n, along, ← x, w, ← x, w))

@@ -34,7 +34,7 @@ impl<L: Label> Departure<L> {
     }
 }
 
-impl<'t, L: Label> LabelTable<'t, L> {
+impl<L: Label> LabelTable<'_, L> {
     /// The rows that are entered.
     fn entries(&self) -> &[Row<L>]
         ensures { result.now ≡ take self.now.entered self.now.rows.now }
@@ -49,7 +49,7 @@ impl<'t, L: Label> LabelTable<'t, L> {
         ensures rows { self.new.rows.now ≡ map (lowered L.kind node label.now) (take self.old.entered self.old.rows.now) ++ drop self.old.entered self.old.rows.now }
     {
         let rows = &mut *self.rows;
-        // by their numbers, as the project wants it
+        // with the numbers of the entries: a rule of the project
         for i in 0..self.entered as usize {
             rows[i] = rows[i].lowered(node, label);
         }
@@ -87,7 +87,7 @@ impl<'t, L: Label> LabelTable<'t, L> {
         ensures keeps { A.limit agenda.new ≡ A.limit agenda.old }
     {
         let len = self.rows.len();
-        'legs: for k in legs.start..legs.end {
+        'legs: for k in legs {
             let Some(new) = from.row_along(net, k) else {
                 continue 'legs;
             };

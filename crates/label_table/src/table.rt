@@ -3,7 +3,7 @@ ghost use Rattle.std.specs.Prelude.{◌<◌, ◌≤◌, ◌^◌, length};
 
 use crate::row::Row;
 
-/// A label table: the rows that the caller lends, of which the first are entered, one at least.
+/// A label table: rows that the caller lends, of which the first `entered` are entered, at least one.
 #[derive(Drop)]
 pub struct LabelTable<'t, L> {
     pub rows: &'t mut [Row<L>],

@@ -67,7 +67,7 @@ fn consider_all<N: Network, L: Label, A: Agenda>(
 fn considered(
     rows: &mut [Row<Plain>],
     waiting: &mut [u16],
-    node_from: u16,
+    at: u16,
 ) -> Result<(u16, Result<(), RunFault>), Fail> {
     let nodes = [node(0), node(5)];
     let legs = [leg(5, 5), leg(3, 1), leg(4, 4), leg(101, 0), leg(2, 9)];
@@ -80,13 +80,14 @@ fn considered(
     let mut table = LabelTable { rows, entered: 1 };
     let from = Departure {
         entry: 0,
-        node: node_from,
+        node: at,
         label: Plain { time: 0, cost: 0 },
     };
     let answer = consider_all(&source, &mut agenda, &mut table, &from);
     Ok((table.entered, answer))
 }
 
+/// The second label beats the first, the third is covered, and the fourth leg leads outside.
 #[test]
 fn five_legs(rt: HostRuntime) -> Result<(), Fail> {
     let mut rows = [start(); 5];

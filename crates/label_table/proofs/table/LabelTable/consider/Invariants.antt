@@ -12,7 +12,8 @@ invariant-legs g l =
     let bag = g.A.Agenda.bag l.fn.agenda in
     let bag' = g.A.Agenda.bag l.agenda in
     record {
-      rest : Left N g.L.Label.kind room l.from l.fn.legs.end l.k l.self.entered (length bag') l.self.rows.now (along_row N g.L.Label.kind room l.from l.fn.legs.start l.fn.legs.end l.fn.self.entered (length bag) l.fn.self.rows.now);
+      rest : Left N g.L.Label.kind room l.from l.fn.legs.end l.k-iterator.start l.self.entered (length bag') l.self.rows.now (along_row N g.L.Label.kind room l.from l.fn.legs.start l.fn.legs.end l.fn.self.entered (length bag) l.fn.self.rows.now);
+      end : l.k-iterator.end ≡ l.fn.legs.end;
       more : EntersMore l.fn.self l.self bag bag';
       keeps : g.A.Agenda.limit l.agenda ≡ room;
     }
