@@ -14,7 +14,7 @@ pub fn are_bytes(s: &[u8])
     prove!(read == s.len());
 }
 
-// The `N` bytes from `at` on.
+/// The `N` bytes from `at` on.
 fn bytes_at<const N: usize>(s: &[u8], at: usize) -> [u8; N]
     requires { at + N ≤ length s.now }
     ensures { result ≡ take N (drop at s.now) }
@@ -43,7 +43,7 @@ pub fn signed32(s: &[u8], at: usize) -> i32
     i32::from_le_bytes(bytes_at(s, at))
 }
 
-// Writes bytes from `at` on.
+/// Writes bytes from `at` on.
 fn put<const N: usize>(out: &mut [u8], at: usize, bytes: [u8; N])
     requires { at + N ≤ length out.old }
     ensures { out.new ≡ over out.old at bytes.entry }

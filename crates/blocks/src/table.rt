@@ -25,6 +25,7 @@ pub fn in_block(n: usize, k: usize) -> usize
 }
 
 /// Record `r` of a block of records of `width` bytes.
+#[tactic(auto, unfolding(crate::specs::Tables::record_of))]
 pub fn record_of(block: &Block, width: usize, r: usize) -> &[u8]
     requires { 4 + width * r + width ≤ 512 }
     ensures value { result.now ≡ record_of width block.now r }
@@ -35,6 +36,7 @@ pub fn record_of(block: &Block, width: usize, r: usize) -> &[u8]
 }
 
 /// Record `i` of a table whose first block has the number `base`, with `per` records of `width` bytes to a block.
+#[tactic(auto, unfolding(crate::specs::Tables::record_at))]
 pub fn record_at(image: &[u8], width: usize, per: usize, base: usize, i: usize) -> &[u8]
     requires some { 0 < per }
     requires block { 512 * (base + i / per) + 512 ≤ length image.now }
@@ -46,6 +48,7 @@ pub fn record_at(image: &[u8], width: usize, per: usize, base: usize, i: usize) 
 }
 
 /// A table that is written is read again, and one that is read is written again.
+#[tactic(auto, using(crate::proofs::Chunked::kept, crate::proofs::Chunked::chunks12))]
 pub fn tables_stand()
     ensures { TablesStand }
 {}

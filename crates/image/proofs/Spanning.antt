@@ -1,15 +1,14 @@
 -- Rows by their spans.
-use Rattle.std.proofs.Common.{◌≡◌, ℕ, ◌+◌, ◌-◌, ◌<◌, ◌≤◌, List, Some, None, Ok, Err, Result, sym, ap, ◌∙◌, arith}
+use Rattle.std.proofs.Common.{◌≡◌, ℕ, ◌+◌, ◌-◌, ◌<◌, ◌≤◌, List, None, Ok, Err, Result, sym, ap, ◌∙◌, arith}
 use Rattle.std.proofs.lemmas.Bool.{le-ltb, cond-false}
 use Rattle.network.specs.Answers.{if_node, length_answer, leg_answer}
-use Rattle.network.specs.Refusals.{NetworkRefusal, no_node, no_such_leg, unreadable}
-use Rattle.network.specs.declared.fault.FileFault.{FileFault}
+use Rattle.network.specs.Refusals.{NetworkRefusal, no_node, no_such_leg}
 use Rattle.network.proofs.Starts.{start_most, start_rises}
 use Rattle.image_format.specs.Layout.{nodes_in, legs_in, first_leg_of, start}
 use Rattle.image_format.specs.Judge.{Sound}
 use Rattle.image_format.specs.Decode.{span_fault, leg_at, image_net}
 use Rattle.image_format.proofs.Sounds.{Facts, sound_facts, ordered}
-use Rattle.image_format.proofs.Told.{length_refused, leg_refused, length_given, leg_given, leg_missing}
+use Rattle.image_format.proofs.Told.{length_given, leg_given, leg_missing}
 use Rattle.image.specs.Spans.{IsSpan, IsRefused}
 
 pub row_end : (s : List ℕ) (i : ℕ) → Sound s → start s (i + 1) ≤ legs_in s
@@ -35,9 +34,6 @@ no_row s i a h = sym (cond-false _ _ _ (le-ltb _ _ h))
 
 pub no_node_refused : (s : List ℕ) (i : ℕ) → nodes_in s ≤ i → IsRefused s i (no_node i)
 no_node_refused s i h = record { length = no_row s i _ h; leg = λ k. no_row s i _ h }
-
-pub unreadable_refused : (s : List ℕ) (i : ℕ) (f : FileFault) → i < nodes_in s → span_fault s (start s i) (start s (i + 1)) ≡ Some f → IsRefused s i (unreadable i f)
-unreadable_refused s i f h e = record { length = sym (length_refused s i h f e); leg = λ k. sym (leg_refused s i h k f e) }
 
 pub length_of : (s : List ℕ) (i from to : ℕ) → IsSpan s i from to → Ok (to - from) ≡ length_answer (image_net s) i
 length_of s i from to p =

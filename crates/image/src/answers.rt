@@ -1,6 +1,7 @@
 //! What an image answers.
 ghost use Rattle.std.specs.Prelude.{◌≡◌, ◌<◌, ◌≤◌, MatchResult};
 ghost use Rattle.std.specs.Result.{result_err};
+ghost use Rattle.network.specs.Limits.{most_legs};
 ghost use Rattle.network.specs.Refusals.{network_refusal};
 ghost use Rattle.blocks.specs.Tables.{blocks_for};
 ghost use Rattle.image_format.specs.Layout.{legs_in};
@@ -18,9 +19,9 @@ use network::leg::{Leg, Window};
 use network::network::Network;
 use std::ops::Range;
 
-// How many leg blocks hold the legs from `from` to before `to`.
+/// How many leg blocks hold the legs from `from` to before `to`.
 fn blocks_over(from: usize, to: usize) -> usize
-    requires { to ≤ 20000 }
+    requires { to ≤ most_legs }
     ensures { result ≡ blocks_over from to }
 {
     if from < to {
@@ -31,7 +32,7 @@ fn blocks_over(from: usize, to: usize) -> usize
 }
 
 impl ImageSource<'_> {
-    // Judges leg block `k`, counted from 0.
+    /// Judges leg block `k`, counted from 0.
     fn leg_block(&self, k: usize) -> Result<(), FileFault>
         requires { k < blocks_for 42 (legs_in self.now.image.now) }
         ensures { result_err result ≡ leg_block_fault_at self.now.image.now k }
@@ -43,7 +44,7 @@ impl ImageSource<'_> {
         }
     }
 
-    // Judges the leg blocks that hold a leg from `from` to before `to`.
+    /// Judges the leg blocks that hold a leg from `from` to before `to`.
     #[tactic(auto, unfolding(image_format::specs::Decode::span_fault))]
     fn readable(&self, from: usize, to: usize) -> Result<(), FileFault>
         requires { to ≤ legs_in self.now.image.now }
@@ -55,7 +56,7 @@ impl ImageSource<'_> {
         )
     }
 
-    // Where the row of node `i` stands among the legs, where it can be read.
+    /// Where the row of node `i` stands among the legs, where it can be read.
     fn row(&self, i: u16) -> Result<Range<usize>, NetworkFault>
         ensures { MatchResult result (λ row. IsSpan self.now.image.now i row.start row.end) (λ f. IsRefused self.now.image.now i (network_refusal f)) }
     {
@@ -63,10 +64,9 @@ impl ImageSource<'_> {
         if i >= layout.nodes {
             return Err(NetworkFault::NoNode { node: i });
         }
-        let from = layout.start(i as usize) as usize;
-        let to = layout.start(i as usize + 1) as usize;
-        met_at(self.readable(from, to), i)?;
-        Ok(from..to)
+        let row = layout.row(i as usize);
+        met_at(self.readable(row.start, row.end), i)?;
+        Ok(row)
     }
 }
 

@@ -38,7 +38,7 @@ fn judge_header(block: &Block) -> Result<(), FileFault>
     unused(block, 14, FilePart::Header, 0)
 }
 
-// The most that the first leg of node `i` may be.
+/// The most that the first leg of node `i` may be.
 fn most_first(legs: u32, i: usize) -> u32
     ensures { result ≡ most_first legs i }
 {
@@ -63,7 +63,7 @@ pub(crate) fn judge_block<F: Fn(usize) -> Result<(), FileFault>>(
 }
 
 impl Layout<'_> {
-    // The least that the first leg of node `i` may be.
+    /// The least that the first leg of node `i` may be.
     fn least_first(&self, i: usize) -> u32
         requires { i < self.now.nodes }
         ensures { result ≡ least_first (first_leg_of self.now.image.now) i }
@@ -75,7 +75,7 @@ impl Layout<'_> {
         }
     }
 
-    // Judges record `r` of node block `k`, counted from 0.
+    /// Judges record `r` of node block `k`, counted from 0.
     #[tactic(auto, unfolding(image_format::specs::Judge::node_fault))]
     fn judge_node(&self, k: usize, r: usize) -> Result<(), FileFault>
         requires there { 42 * k + r < self.now.nodes }
@@ -84,12 +84,12 @@ impl Layout<'_> {
     {
         let i = PER_BLOCK * k + r;
         let node = self.node(i);
+        let hours = node.window;
         let low = self.least_first(i);
         let high = most_first(self.legs, i);
+        let part = FilePart::NodeTable;
         let block = (1 + k) as u16;
         let byte = (4 + WIDTH * r) as u16;
-        let part = FilePart::NodeTable;
-        let hours = node.window;
         unless(hours.opens <= MAX_TIME, part.at(block, byte))?;
         unless(
             hours.opens <= hours.closes && hours.closes <= MAX_TIME,
@@ -106,15 +106,12 @@ impl Layout<'_> {
         requires { k < blocks_for 42 self.now.nodes }
         ensures { result_err result ≡ node_block_fault self.now.image.now self.now.nodes self.now.legs k }
     {
+        let number = 1 + k;
+        let block = block_of(self.image, number);
         let count = in_block(self.nodes as usize, k);
-        let block = block_of(self.image, 1 + k);
-        judge_block(
-            block,
-            BlockKind::Nodes,
-            (1 + k) as u16,
-            count,
-            |r| self.judge_node(k, r),
-        )
+        judge_block(block, BlockKind::Nodes, number as u16, count, |r| {
+            self.judge_node(k, r)
+        })
     }
 
     fn judge_nodes(&self) -> Result<(), FileFault>

@@ -2,20 +2,33 @@
 ghost use Rattle.std.specs.Prelude.{◌≡◌, ℕ, ◌+◌, ◌*◌, ◌<◌, ◌≤◌, length};
 ghost use Rattle.network.specs.Limits.{most_nodes, most_legs};
 ghost use Rattle.blocks.specs.Tables.{blocks_for};
-ghost use Rattle.image_format.specs.Layout.{nodes_in, legs_in, start as start_at};
+ghost use Rattle.image_format.specs.Layout.{nodes_in, legs_in, start};
 ghost use Rattle.image_format.specs.Judge.{block_count};
-ghost use Rattle.image_format.specs.Decode.{leg_at};
+ghost use Rattle.image_format.specs.Decode.{leg_at, leg_in_record};
 ghost use Rattle.image.specs.Nodes.{node_at};
 
 use blocks::bytes::{le16, le32, signed32};
 use blocks::table::{PER_BLOCK, WIDTH, blocks_for, record_at};
 use network::leg::{Leg, Window};
+use std::ops::Range;
 
 /// A node: its opening hours, and where its row begins among the legs.
 #[derive(Clone, Copy)]
 pub(crate) struct NodeRecord {
     pub(crate) window: Window,
     pub(crate) first_leg: u32,
+}
+
+/// The leg that a record holds.
+pub(crate) fn leg_in(bytes: &[u8]) -> Leg
+    requires { length bytes.now ≡ 12 }
+    ensures { result ≡ leg_in_record bytes.now }
+{
+    Leg {
+        head: le16(bytes, 0),
+        duration: le32(bytes, 4),
+        cost: signed32(bytes, 8),
+    }
 }
 
 /// An image that is as long as the nodes and legs that its header counts.
@@ -47,15 +60,24 @@ impl Layout<'_> {
         }
     }
 
-    /// Where the row of node `i` starts among the legs.
-    pub(crate) fn start(&self, i: usize) -> u32
-        ensures { result ≡ start_at self.now.image.now i }
+    /// Where the row of node `i` starts among the legs, and the row before it ends.
+    fn row_start(&self, i: usize) -> usize
+        ensures { result ≡ start self.now.image.now i }
     {
         if i < self.nodes as usize {
-            self.node(i).first_leg
+            self.node(i).first_leg as usize
         } else {
-            self.legs
+            self.legs as usize
         }
+    }
+
+    /// Where the row of node `i` stands among the legs.
+    pub(crate) fn row(&self, i: usize) -> Range<usize>
+        requires { i < self.now.nodes }
+        ensures starts { result.start ≡ start self.now.image.now i }
+        ensures ends { result.end ≡ start self.now.image.now (i + 1) }
+    {
+        self.row_start(i)..self.row_start(i + 1)
     }
 
     /// The number of the first leg block.
@@ -70,11 +92,6 @@ impl Layout<'_> {
         requires { j < self.now.legs }
         ensures { result ≡ leg_at self.now.image.now j }
     {
-        let record = record_at(self.image, WIDTH, PER_BLOCK, self.leg_base(), j);
-        Leg {
-            head: le16(record, 0),
-            duration: le32(record, 4),
-            cost: signed32(record, 8),
-        }
+        leg_in(record_at(self.image, WIDTH, PER_BLOCK, self.leg_base(), j))
     }
 }

@@ -6,9 +6,9 @@ ghost use Rattle.image_format.specs.Judge.{leg_fault_in, leg_block_fault_at};
 ghost use Rattle.image.specs.Marks.{Marked};
 
 use crate::judge::{judge_block, unless};
-use crate::layout::Layout;
+use crate::layout::{Layout, leg_in};
 use blocks::block::{Block, block_of};
-use blocks::bytes::{le16, le32, signed32};
+use blocks::bytes::le16;
 use blocks::table::{WIDTH, blocks_for, in_block, record_of};
 use image_format::{BlockKind, MAX_COST};
 use network::fault::{FileFault, FilePart};
@@ -19,24 +19,24 @@ use std::array;
 pub(crate) const MAX_LEG_BLOCKS: usize = 477;
 
 impl Layout<'_> {
-    // Judges record `r` of the leg block with this number.
+    /// Judges record `r` of the leg block with this number.
     #[tactic(auto, unfolding(image_format::specs::Judge::leg_fault))]
     fn judge_leg(&self, block: &Block, number: u16, r: usize) -> Result<(), FileFault>
         requires { r < 42 }
         ensures { result_err result ≡ leg_fault_in block.now self.now.nodes number r }
     {
         let record = record_of(block, WIDTH, r);
-        let byte = (4 + WIDTH * r) as u16;
+        let leg = leg_in(record);
         let part = FilePart::LegTable;
-        let duration = le32(record, 4);
-        unless(le16(record, 0) < self.nodes, part.at(number, byte))?;
+        let byte = (4 + WIDTH * r) as u16;
+        unless(leg.head < self.nodes, part.at(number, byte))?;
         unless(le16(record, 2) == 0, part.at(number, byte + 2))?;
         unless(
-            1 <= duration && duration <= MAX_TIME,
+            1 <= leg.duration && leg.duration <= MAX_TIME,
             part.at(number, byte + 4),
         )?;
         unless(
-            signed32(record, 8).unsigned_abs() <= MAX_COST,
+            leg.cost.unsigned_abs() <= MAX_COST,
             part.at(number, byte + 8),
         )
     }
@@ -55,7 +55,7 @@ impl Layout<'_> {
         })
     }
 
-    // Whether there is a leg block `k`, counted from 0, and it is sound.
+    /// Whether there is a leg block `k`, counted from 0, and it is sound.
     fn is_sound(&self, k: usize) -> bool
         ensures { result ≡ (nat_lt k (blocks_for 42 self.now.legs) && not (is_some (leg_block_fault_at self.now.image.now k))) }
     {

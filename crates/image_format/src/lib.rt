@@ -49,6 +49,7 @@ pub fn written_is_read()
 {}
 
 /// An image that opens, and whose rows can all be read, is the image of its network.
+#[tactic(auto, using(crate::proofs::Again::read_is_written_lem))]
 pub fn read_is_written()
     ensures { ReadIsWritten }
 {}

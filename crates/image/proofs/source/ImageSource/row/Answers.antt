@@ -12,14 +12,15 @@ returns-then-i-layout c =
 pub readable-requires : goal.readable-requires
 readable-requires c =
     let w = row_end c.args.self.now.image.now c.args.i c.args.self.now.sound in
-    let e = c.start-to.ensures ∙ ap (λ s. start s (c.args.i + 1)) c.layout-layout.ensures in
+    let e = c.row-row.ensures.ends ∙ ap (λ s. start s (c.args.i + 1)) c.layout-layout.ensures in
     omega arith
 
 pub returns : goal.returns
 returns c =
     let s = c.args.self.now.image.now in
+    let row = c.row-row.result in
     let n = c.layout-layout.result.nodes_read ∙ ap nodes_in c.layout-layout.ensures in
-    let r : span_fault s c.start-from.result c.start-to.result ≡ None = search rules in
-    is_span s c.args.i c.start-from.result c.start-to.result c.args.self.now.sound (omega arith)
-    (c.start-from.ensures ∙ ap (λ s. start s c.args.i) c.layout-layout.ensures)
-    (c.start-to.ensures ∙ ap (λ s. start s (c.args.i + 1)) c.layout-layout.ensures) r
+    let r : span_fault s row.start row.end ≡ None = search rules in
+    is_span s c.args.i row.start row.end c.args.self.now.sound (omega arith)
+    (c.row-row.ensures.starts ∙ ap (λ s. start s c.args.i) c.layout-layout.ensures)
+    (c.row-row.ensures.ends ∙ ap (λ s. start s (c.args.i + 1)) c.layout-layout.ensures) r
