@@ -17,8 +17,9 @@ use network::network::Network;
 
 fn tell_rows<N: Network>(rt: &HostRuntime, net: &N) -> anyhow::Result<()> {
     print!(rt; "ok")?;
-    for i in 0..net.node_count() {
-        if let Err(NetworkFault::UnreadableRow { node, below }) = net.row_len(i) {
+    let faults = (0..net.node_count()).filter_map(|i| net.row_len(i).err());
+    for fault in faults {
+        if let NetworkFault::UnreadableRow { node, below } = fault {
             let FileFault { part, block, byte } = below;
             print!(rt; " 9:{node}:{}:{block}:{byte}", part.number())?;
         }

@@ -3,10 +3,11 @@ use Rattle.std.proofs.Common.{◌≡◌, ℕ, zero, suc, ◌+◌, ◌*◌, ◌<�
 use borrow.Rule.Slice.PartMut.{put_mid}
 use Rattle.std.specs.Option.{option_map, option_or}
 use Rattle.std.proofs.lemmas.List.{append_assoc}
-use Rattle.std.proofs.lemmas.Bool.{cases_eq, cases_lt, cond-true, cond-false, lt-ltb, le-ltb}
+use Rattle.std.proofs.lemmas.Bool.{cases_eq, cases_lt, cond-true, lt-ltb}
 use Rattle.std.specs.Result.{result_unwrap_or}
 use Rattle.network.specs.Answers.{length_answer, leg_answer, row_leg}
 use Rattle.network.specs.declared.fault.NetworkFault.{NetworkFault}
+use Rattle.network.proofs.Legs.{leg_tells}
 use Rattle.network.proofs.Facts.{at_node_lem, length_tells, refusal_tells}
 use Rattle.network.specs.Meaning.{Net, Row, legs_row, unreadable_row, legs_of, fault_in, legs_at, all_legs, no_leg}
 use Rattle.network.specs.Lawful.{Lawful}
@@ -100,14 +101,6 @@ block_more kind base n f d out block k w each room v b o =
     ∙ ap (over d (512 * base)) (ap (λ z. pile t k ++ z) b ∙ sym m)
 
 -- legs
-row_gives : (i k : ℕ) (row : Row) (l : Leg) → Ok l ≡ row_leg i k row → (k < length (legs_of row)) × (l ≡ get_or (legs_of row) k no_leg)
-row_gives i k (legs_row ls) l e =
-    ⊎_elim
-    (λ (q : k < length ls). let f = e ∙ cond-true (ltb k (length ls)) _ _ (lt-ltb k (length ls) q) in (q, cc))
-    (λ (q : length ls ≤ k). let f = e ∙ cond-false (ltb k (length ls)) _ _ (le-ltb k (length ls) q) in let z : ◌≡◌ {A = ℕ} 0 1 = cc in absurd (omega arith))
-    (cases_lt k (length ls))
-row_gives i k (unreadable_row f) l e = let z : ◌≡◌ {A = ℕ} 0 1 = cc in absurd (omega arith)
-
 row_ends : (i k : ℕ) (row : Row) (r : NetworkRefusal) → Err r ≡ row_leg i k row → length (legs_of row) ≤ k
 row_ends i k (legs_row ls) r e =
     ⊎_elim
@@ -119,11 +112,11 @@ row_ends i k (unreadable_row f) r e = omega arith
 -- leg k of node i is given: its record comes, and then those of the legs after it
 pub leg_given : (N : Net) (i k : ℕ) (l : Leg) → i < N.n → Ok l ≡ leg_answer N i k → (k < length (legs_at N i)) × (leg_records_from N i k ≡ leg_bytes l ∷ leg_records_from N i (k + 1))
 leg_given N i k l h e =
-    let w = row_gives i k (N.row i) l (e ∙ at_node_lem N i _ h) in
-    let t : get_or (all_legs N) (first_of_node N i + k) no_leg ≡ get_or (legs_at N i) k no_leg = pile_item (legs_at N) N.n i k no_leg h w.0 in
+    let w = leg_tells N i k l e in
+    let t : get_or (all_legs N) (first_of_node N i + k) no_leg ≡ get_or (legs_at N i) k no_leg = pile_item (legs_at N) N.n i k no_leg h w.1 in
     let b = first_grows N i h in
-    let x : leg_bytes_at N (first_of_node N i + k) ≡ leg_bytes l = ap leg_bytes (t ∙ sym w.1) in
-    (w.0, one_more (leg_bytes_at N) (leg_count N) (first_of_node N i + k) (first_of_node N i + (k + 1)) (omega arith) (omega arith) ∙ ap (λ z. z ∷ leg_records_from N i (k + 1)) x)
+    let x : leg_bytes_at N (first_of_node N i + k) ≡ leg_bytes l = ap leg_bytes (t ∙ sym w.2) in
+    (w.1, one_more (leg_bytes_at N) (leg_count N) (first_of_node N i + k) (first_of_node N i + (k + 1)) (omega arith) (omega arith) ∙ ap (λ z. z ∷ leg_records_from N i (k + 1)) x)
 
 -- no leg k of node i: the legs of the next node follow
 pub row_ended : (N : Net) (i k : ℕ) (r : NetworkRefusal) → i < N.n → k ≤ length (legs_at N i) → Err r ≡ leg_answer N i k → leg_records_from N i k ≡ leg_records_from N (i + 1) 0

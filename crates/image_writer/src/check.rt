@@ -19,7 +19,7 @@ use network::row::legs_from;
 pub(crate) fn count_legs<N: Network>(net: &N) -> Result<u32, NetworkFault>
     ensures { told result ≡ count_answer (N.meaning net.now) }
 {
-    // A loop: of a sum of results nothing says which row ended it.
+    // A loop: the step of a fold would carry its invariant as clauses.
     let mut total = 0;
     for i in 0..net.node_count() {
         total += u32::from(net.row_len(i)?);

@@ -11,16 +11,19 @@ use network::network::Network;
 /// The records of a network's legs, row by row, from a leg of a node on.
 // A `flat_map` over the rows would hold a closure, and at such an iterator no ghost value is read.
 #[derive(Drop)]
-pub(crate) struct LegRecords<'a, N> {
+pub(crate) struct LegRecords<'a, N: Network> {
     net: &'a N,
     node: u16,
     leg: u16,
+    ghost in_row: { leg ≤ length (legs_at (N.Network.meaning net.now) node) },
 }
 
 impl<'a, N: Network> LegRecords<'a, N> {
     /// From the first node on.
     pub fn of(net: &'a N) -> Self
-        ensures { result ≡ record { net = net.entry; node = 0; leg = 0 } }
+        ensures net { result.net.now ≡ net.now }
+        ensures node { result.node ≡ 0 }
+        ensures leg { result.leg ≡ 0 }
     {
         LegRecords {
             net,
@@ -32,8 +35,6 @@ impl<'a, N: Network> LegRecords<'a, N> {
 
 impl<'a, N: Network> Iterator for LegRecords<'a, N> {
     type Item = Record;
-
-    ghost can_next = { λ s. s.leg ≤ length (legs_at (N.Network.meaning s.net.now) s.node) };
 
     ghost next_gives = { YieldsFirst (λ s. leg_records_from (N.Network.meaning s.net.now) s.node s.leg) };
 

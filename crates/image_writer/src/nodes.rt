@@ -10,16 +10,18 @@ use network::network::Network;
 
 /// The records of a network's nodes from one on, and the number of its first leg.
 #[derive(Drop)]
-pub(crate) struct NodeRecords<'a, N> {
+pub(crate) struct NodeRecords<'a, N: Network> {
     net: &'a N,
     node: u16,
     first: u32,
+    ghost first_leg: { first ≡ first_of_node (N.Network.meaning net.now) node },
 }
 
 impl<'a, N: Network> NodeRecords<'a, N> {
     /// From the first node on.
     pub fn of(net: &'a N) -> Self
-        ensures { result ≡ record { net = net.entry; node = 0; first = 0 } }
+        ensures net { result.net.now ≡ net.now }
+        ensures node { result.node ≡ 0 }
     {
         NodeRecords {
             net,
@@ -31,8 +33,6 @@ impl<'a, N: Network> NodeRecords<'a, N> {
 
 impl<'a, N: Network> Iterator for NodeRecords<'a, N> {
     type Item = Record;
-
-    ghost can_next = { λ s. s.first ≡ first_of_node (N.Network.meaning s.net.now) s.node };
 
     ghost next_gives = { YieldsFirst (λ s. node_records_from (N.Network.meaning s.net.now) s.node) };
 

@@ -23,12 +23,12 @@ fn put_image<N: Network>(net: &N, header: Header, out: &mut [u8])
     let nodes = Table {
         kind: BlockKind::Nodes,
         base: 1,
-        count: header.nodes as usize,
+        records: header.nodes as usize,
     };
     let legs = Table {
         kind: BlockKind::Legs,
-        base: 1 + blocks_for(nodes.count),
-        count: header.legs as usize,
+        base: 1 + blocks_for(nodes.records),
+        records: header.legs as usize,
     };
     header.store_in(out.first_chunk_mut().unwrap());
     nodes.put(NodeRecords::of(net), out);

@@ -9,7 +9,7 @@ overflow_add-self g c =
     let s = c.args.self.now in
     let N = g.N.Network.meaning s.net.now in
     let h : s.node < N.n = search rules in
-    let e : s.first ≡ first_of_node N s.node = c.requires in
+    let e : s.first ≡ first_of_node N s.node = s.first_leg in
     let l = row_count N s.node c.row_len.result h c.row_len.ensures in
     let t = total_fits N s.node (g.N.Network.lawful s.net.now) h in
     record { fits = omega (arith, l) }
@@ -19,8 +19,8 @@ returns-clause-goes g c =
     let s = c.args.self.now in
     let N = g.N.Network.meaning s.net.now in
     let h : s.node < N.n = search rules in
-    let e : s.first ≡ first_of_node N s.node = c.requires in
+    let e : s.first ≡ first_of_node N s.node = s.first_leg in
     let l = row_count N s.node c.row_len.result h c.row_len.ensures in
     let n = first_next N s.node in
     let k : s.first + c.from.result ≡ first_of_node N (s.node + 1) = omega (arith, l) in
-    record { on = λ _. (k, tt, omega arith); keeps = k; rests = λ _. tt }
+    record { on = λ _. (tt, tt, omega arith); keeps = tt; rests = λ _. tt }

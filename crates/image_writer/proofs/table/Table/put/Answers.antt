@@ -7,15 +7,15 @@ use Rattle.image_writer.proofs.table.Table.put.Goals as goal
 
 pub loop-k-init : goal.loop-k-init
 loop-k-init g c =
-    let e : 0 ≡ min 0 c.args.self.now.count = omega arith in
+    let e : 0 ≡ min 0 c.args.self.now.records = omega arith in
     record {
       written = over_none c.args.out.now _;
-      next = subst (λ (j : ℕ). GivesFrom g.I.Iterator.can_next g.I.Iterator.next_gives g.f c.args.self.now.count j c.args.records) e c.requires.1.0;
+      next = subst (λ (j : ℕ). GivesFrom g.I.Iterator.can_next g.I.Iterator.next_gives g.f c.args.self.now.records j c.args.records) e c.requires.1.0;
     }
 
 pub loop-k-preserved : goal.loop-k-preserved
 loop-k-preserved g c =
-    let n : ℕ = c.args.self.now.count in
+    let n : ℕ = c.args.self.now.records in
     let k : ℕ = c.loop-k.k in
     let e : 42 * k + in_block 42 n k ≡ min (42 * (k + 1)) n = omega arith in
     record {

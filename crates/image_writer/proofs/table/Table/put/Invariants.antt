@@ -10,8 +10,8 @@ ghost-block g a = g.f
 
 abbrev pub invariant-loop-k : goal.invariant-loop-k
 invariant-loop-k g l = record {
-  written : l.out ≡ over l.initial.out (512 * l.self.base) (pile (table_block 42 (kind_number l.self.kind) l.self.base g.f l.self.count) l.k);
-  next : GivesFrom g.I.Iterator.can_next g.I.Iterator.next_gives g.f l.self.count (min (42 * l.k) l.self.count) l.records;
+  written : l.out ≡ over l.initial.out (512 * l.self.base) (pile (table_block 42 (kind_number l.self.kind) l.self.base g.f l.self.records) l.k);
+  next : GivesFrom g.I.Iterator.can_next g.I.Iterator.next_gives g.f l.self.records (min (42 * l.k) l.self.records) l.records;
 }
 
 abbrev pub decreases-loop-k : goal.decreases-loop-k
