@@ -22,7 +22,7 @@ use Rattle.image_format.specs.Encode.{header_of, header_bytes, header_block, nod
 use Rattle.image_format.proofs.Back.{header_long, nodes_long, legs_long, first_grows, first_next}
 use Rattle.blocks.proofs.Chunked.{chunks12, table_block_length}
 use Rattle.network.proofs.Piles.{length-pile, pile_item, pile_grows}
-use Rattle.network.proofs.Firsts.{first_more, first_here}
+use Rattle.network.proofs.Firsts.{first_here}
 use Rattle.blocks.specs.Over.{over}
 use Rattle.image_writer.specs.Order.{records_from}
 use Rattle.image_writer.proofs.Order.{one_more, no_more}
@@ -34,16 +34,8 @@ use Rattle.blocks.proofs.Overs.{next, grow, part_over, top_over}
 pub total_fits : (N : Net) (i : ℕ) → Lawful N → i < N.n → first_of_node N i + length (legs_at N i) ≤ 20000
 total_fits N i w h = let a = first_grows N i h in omega (arith, w.few)
 
-pub row_read : (N : Net) (i : ℕ) → fault_in (N.row i) ≡ None → first_of (unread_at N) i ≡ None → first_of (unread_at N) (i + 1) ≡ None
-row_read N i e f = first_more (unread_at N) i f (ap (option_map (unreadable i)) e)
-
 pub row_unread : (N : Net) (i : ℕ) (r : NetworkRefusal) → i < N.n → unread_at N i ≡ Some r → first_of (unread_at N) i ≡ None → Err r ≡ count_answer N
 row_unread N i r h e f = sym (ap (λ o. answer_by o (leg_count N)) (first_here (unread_at N) i N.n r h f e))
-
-pub rows_read : (N : Net) (i : ℕ) → N.n ≤ i → i ≤ N.n → first_of (unread_at N) i ≡ None → Ok (first_of_node N i) ≡ count_answer N
-rows_read N i p q f =
-    let e : i ≡ N.n = omega arith in
-    ap (λ j. Ok (first_of_node N j)) e ∙ sym (ap (λ o. answer_by o (leg_count N)) (ap (first_of (unread_at N)) (sym e) ∙ f))
 
 no_legs : (i : ℕ) (r : NetworkRefusal) (row : Row) → option_map (unreadable i) (fault_in row) ≡ Some r → 0 ≡ length (legs_of row)
 no_legs i r (legs_row ls) e = let z : ◌≡◌ {A = ℕ} 0 1 = cc in absurd (omega arith)

@@ -29,12 +29,6 @@ returns-then-out-size g c =
     let o = short N c.args.out.now (g.N.Network.lawful c.args.net.now) t.0 c.in_ok-check_costs.ensures (omega (arith, t.1)) in
     record { answer = o.answer; bytes = o.bytes; copy = o.copy; when = o.when }
 
-pub put_image-requires : goal.put_image-requires
-put_image-requires g c =
-    let N = g.N.Network.meaning c.args.net.now in
-    let t = answer_tells (first_of (unread_at N) N.n) _ (leg_count N) c.in_ok-count_legs.ensures in
-    record { header = cc t.1; room = omega (arith, t.1) }
-
 pub returns : goal.returns
 returns g c =
     let N = g.N.Network.meaning c.args.net.now in

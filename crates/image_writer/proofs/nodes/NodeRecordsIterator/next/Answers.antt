@@ -14,8 +14,8 @@ overflow_add-self g c =
     let t = total_fits N s.node (g.N.Network.lawful s.net.now) h in
     record { fits = omega (arith, l) }
 
-pub returns-clause-goes : goal.returns-clause-goes
-returns-clause-goes g c =
+pub invariant_of-self : goal.invariant_of-self
+invariant_of-self g c =
     let s = c.args.self.now in
     let N = g.N.Network.meaning s.net.now in
     let h : s.node < N.n = search rules in
@@ -23,4 +23,4 @@ returns-clause-goes g c =
     let l = row_count N s.node c.row_len.result h c.row_len.ensures in
     let n = first_next N s.node in
     let k : s.first + c.from.result ≡ first_of_node N (s.node + 1) = omega (arith, l) in
-    record { on = λ _. (tt, tt, omega arith); keeps = tt; rests = λ _. tt }
+    record { first_leg = k }

@@ -1,13 +1,9 @@
 use Rattle.std.proofs.Common.{◌≡◌, ℕ, ◌+◌, ◌*◌, refl, ◌∙◌, arith, rules}
 use Rattle.blocks.specs.Blocks.{start_bytes}
 use Rattle.image_writer.specs.Order.{kind_number}
-use Rattle.image_writer.proofs.Order.{next_given, some_from}
+use Rattle.image_writer.proofs.Order.{next_given}
 use Rattle.image_writer.proofs.Steps.{record_more, record_block}
 use Rattle.image_writer.proofs.table.Table.block.Goals as goal
-
-pub unwrap-requires : goal.unwrap-requires
-unwrap-requires g c =
-    some_from _ _ (next_given (42 * c.args.k + (c.loop-r.r + 1)) _ c.loop-r.invariant.next (omega arith) (omega arith) c.next.ensures.steps c.next.ensures.goes.keeps)
 
 pub loop-r-preserved : goal.loop-r-preserved
 loop-r-preserved g c =
