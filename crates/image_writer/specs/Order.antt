@@ -1,15 +1,7 @@
--- The kinds of tables, and iterators that give their records in order.
+-- Iterators that give the records of a table in order.
 use Rattle.std.specs.Prelude.{◌≡◌, ℕ, ◌-◌, List, length, Option, map}
 use Rattle.std.specs.List.{range_with_len}
 use Rattle.std.specs.Iterator.{AlwaysYields}
-use Rattle.image_format.specs.declared.BlockKind.{BlockKind}
-use Rattle.image_format.specs.declared.BlockKind.TheVariants.{Header, Nodes, Legs}
-
--- the number that stands for a kind in a block
-abbrev pub kind_number : BlockKind → ℕ
-kind_number Header = 1
-kind_number Nodes = 2
-kind_number Legs = 3
 
 -- record j, then the next, up to record n - 1
 abbrev pub records_from : (ℕ → List ℕ) → ℕ → ℕ → List (List ℕ)

@@ -2,7 +2,8 @@
 ghost use Rattle.std.specs.Prelude.{◌≡◌, ℕ, ◌+◌, ◌*◌, ◌^◌, ◌<◌, ◌≤◌, List, length};
 ghost use Rattle.blocks.specs.Over.{over};
 ghost use Rattle.blocks.specs.Tables.{blocks_for, in_block, table_block, table_bytes};
-ghost use Rattle.image_writer.specs.Order.{kind_number, GivesFrom};
+ghost use Rattle.image_format.specs.Layout.{kind_number};
+ghost use Rattle.image_writer.specs.Order.{GivesFrom};
 
 use blocks::block::{BLOCK_LEN, Block, finish, start};
 use blocks::table::{WIDTH, blocks_for, in_block};

@@ -1,6 +1,6 @@
 use Rattle.std.proofs.Common.{◌≡◌, ℕ, ◌+◌, ◌*◌, refl, ◌∙◌, arith, rules}
 use Rattle.blocks.specs.Blocks.{start_bytes}
-use Rattle.image_writer.specs.Order.{kind_number}
+use Rattle.image_format.specs.Layout.{kind_number}
 use Rattle.image_writer.proofs.Order.{next_given}
 use Rattle.image_writer.proofs.Steps.{record_more, record_block}
 use Rattle.image_writer.proofs.table.Table.block.Goals as goal

@@ -1,7 +1,8 @@
 use Rattle.std.proofs.Common.{◌≡◌, ◌+◌, ◌*◌, ◌-◌, ◌++◌, take}
 use Rattle.network.specs.Pile.{pile}
 use Rattle.blocks.specs.Blocks.{start_bytes}
-use Rattle.image_writer.specs.Order.{kind_number, GivesFrom}
+use Rattle.image_format.specs.Layout.{kind_number}
+use Rattle.image_writer.specs.Order.{GivesFrom}
 use Rattle.image_writer.proofs.table.Table.block.Given as goal
 
 abbrev pub invariant-loop-r : goal.invariant-loop-r

@@ -1,7 +1,8 @@
 use Rattle.std.proofs.Common.{◌≡◌, ℕ, ◌+◌, ◌*◌, min, ◌∙◌, subst, arith}
 use Rattle.blocks.specs.Tables.{in_block}
 use Rattle.blocks.proofs.Overs.{over_none}
-use Rattle.image_writer.specs.Order.{kind_number, GivesFrom}
+use Rattle.image_format.specs.Layout.{kind_number}
+use Rattle.image_writer.specs.Order.{GivesFrom}
 use Rattle.image_writer.proofs.Steps.{block_more}
 use Rattle.image_writer.proofs.table.Table.put.Goals as goal
 

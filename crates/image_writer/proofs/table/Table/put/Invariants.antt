@@ -2,7 +2,8 @@ use Rattle.std.proofs.Common.{◌≡◌, ◌-◌, ◌*◌, min}
 use Rattle.network.specs.Pile.{pile}
 use Rattle.blocks.specs.Over.{over}
 use Rattle.blocks.specs.Tables.{table_block}
-use Rattle.image_writer.specs.Order.{kind_number, GivesFrom}
+use Rattle.image_format.specs.Layout.{kind_number}
+use Rattle.image_writer.specs.Order.{GivesFrom}
 use Rattle.image_writer.proofs.table.Table.put.Given as goal
 
 abbrev pub ghost-block : goal.ghost-block
