@@ -46,6 +46,7 @@ impl ImageSource<'_> {
 
     /// Judges the leg blocks that hold a leg from `from` to before `to`.
     #[tactic(auto, unfolding(image_format::specs::Decode::span_fault))]
+    // Two numbers: with a `&Range<usize>` what the closure asks found no proof.
     fn readable(&self, from: usize, to: usize) -> Result<(), FileFault>
         requires { to ≤ legs_in self.now.image.now }
         ensures { result_err result ≡ span_fault self.now.image.now from to }

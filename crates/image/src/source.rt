@@ -51,12 +51,14 @@ impl<'a> ImageSource<'a> {
         Ok(())
     }
 
+    /// The header of the image.
     pub(crate) fn header(&self) -> Header
         ensures { result ≡ header_in (block_of self.now.image.now 0) }
     {
         Header::stored_in(block_of(self.image, 0))
     }
 
+    /// Where nodes and legs stand in the image.
     pub(crate) fn layout(&self) -> Layout<'a>
         ensures { result.image.now ≡ self.now.image.now }
     {
