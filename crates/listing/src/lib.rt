@@ -84,6 +84,7 @@ fn list_row<N: Network>(rt: &HostRuntime, net: &N, i: u16) -> io::Result<()> {
 /// A network: its depot and sink, then each node with its window and its legs.
 pub fn list<N: Network>(rt: &HostRuntime, net: &N) -> io::Result<()> {
     println!(rt; "depot {} sink {}", net.depot(), net.sink())?;
+    // by number: a node has no other name
     for i in 0..net.node_count() {
         list_stop(rt, net, i)?;
         list_row(rt, net, i)?;
