@@ -3,9 +3,8 @@ use anyhow::anyhow;
 use image_writer::write::write;
 use network::leg::Leg;
 use std::alloc::Global;
-use table_cases::{four_nodes, leg, node, six_legs};
+use table_cases::{four_nodes, leg, node, six_legs, source_over};
 use tables::record::NodeRecord;
-use tables::source::TableSource;
 
 /// The image of tables.
 fn image_of<'a>(
@@ -15,10 +14,9 @@ fn image_of<'a>(
     depot: u16,
     sink: u16,
 ) -> anyhow::Result<Vec<u8>> {
-    let mut source = TableSource::built_in();
-    if source.open(nodes, legs, depot, sink).is_err() {
+    let Ok(source) = source_over(nodes, legs, depot, sink) else {
         return Err(anyhow!("tables refused"));
-    }
+    };
     let mut image = vec![in heap; 0u8; 4096]?;
     let Ok(size) = write(&source, image.as_mut_slice()) else {
         return Err(anyhow!("not written"));

@@ -12,9 +12,7 @@ use network::network::Network;
 use ring::Ring;
 use std::process::Abort;
 use std::test::Fail;
-use table_cases::{four_nodes, leg, node, six_legs};
-use tables::record::NodeRecord;
-use tables::source::TableSource;
+use table_cases::{four_nodes, leg, node, six_legs, source_over};
 
 /// How many bytes the image of four stops has.
 const IMAGE_SIZE: usize = 1536;
@@ -67,17 +65,6 @@ fn image_of_stops() -> [u8; IMAGE_SIZE] {
 fn image_source(image: &[u8]) -> Result<ImageSource<'_>, FileFault> {
     let mut source = ImageSource::built_in();
     source.open(image)?;
-    Ok(source)
-}
-
-/// The source of tables whose depot is 0.
-fn table_source<'a>(
-    nodes: &'a [NodeRecord],
-    legs: &'a [Leg],
-    sink: u16,
-) -> Result<TableSource<'a>, FileFault> {
-    let mut source = TableSource::built_in();
-    source.open(nodes, legs, 0, sink)?;
     Ok(source)
 }
 
@@ -209,7 +196,7 @@ fn over_a_damaged_image(rt: HostRuntime) -> Result<(), Fail> {
 #[test]
 fn over_tables(rt: HostRuntime) -> Result<(), Fail> {
     let (nodes, legs) = (four_nodes(), six_legs());
-    let source = table_source(&nodes, &legs, 3)?;
+    let source = source_over(&nodes, &legs, 0, 3)?;
     priced(&rt, source, 4)?;
     barred(&rt, source, 4)?;
     price_bar_price(&rt, source, 4)?;
@@ -219,7 +206,7 @@ fn over_tables(rt: HostRuntime) -> Result<(), Fail> {
 #[test]
 fn a_price_at_no_node(rt: HostRuntime) -> Result<(), Fail> {
     let (nodes, legs) = (four_nodes(), six_legs());
-    let mut draft = Prices::over(table_source(&nodes, &legs, 3)?);
+    let mut draft = Prices::over(source_over(&nodes, &legs, 0, 3)?);
     assert_eq!(rt; draft.price(4, 0), Err(LayerFault::NoNode { node: 4 }));
     assert_eq!(rt;
         draft.price(4, 10_000_001),
@@ -274,8 +261,8 @@ fn prices_at_their_limits(rt: HostRuntime) -> Result<(), Fail> {
     let nodes = [node(0, 9, 0), node(0, 9, 1)];
     let small = [leg(1, 1, 100), leg(0, 1, -100)];
     let large = [leg(1, 1, 995_000_000), leg(0, 1, -995_000_000)];
-    largest_sizes(&rt, table_source(&nodes, &small, 1)?)?;
-    largest_reach(&rt, table_source(&nodes, &large, 1)?)
+    largest_sizes(&rt, source_over(&nodes, &small, 0, 1)?)?;
+    largest_reach(&rt, source_over(&nodes, &large, 0, 1)?)
 }
 
 #[test]

@@ -13,9 +13,8 @@ mod tests {
     use network::network::Network;
     use round_trip::{copy, rewrite};
     use std::test::Fail;
-    use table_cases::{leg, node};
+    use table_cases::{leg, node, source_over};
     use tables::record::NodeRecord;
-    use tables::source::TableSource;
 
     fn nodes() -> [NodeRecord; 3] {
         [node(0, 9, 0), node(1, 8, 1), node(2, 7, 2)]
@@ -24,17 +23,6 @@ mod tests {
     // Legs 0 to 1, 1 to 2 and 2 to 0 at these costs.
     fn legs(a: i32, b: i32, c: i32) -> [Leg; 3] {
         [leg(1, 3, a), leg(2, 4, b), leg(0, 5, c)]
-    }
-
-    // A source over tables, from node `depot` to node 2.
-    fn opened<'a>(
-        nodes: &'a [NodeRecord],
-        legs: &'a [Leg],
-        depot: u16,
-    ) -> Result<TableSource<'a>, FileFault> {
-        let mut source = TableSource::built_in();
-        source.open(nodes, legs, depot, 2)?;
-        Ok(source)
     }
 
     // What writing that network at these costs answers, into a buffer of sevens, and whether the buffer still is one.
@@ -47,7 +35,7 @@ mod tests {
         requires { room ≤ 2048 }
     {
         let (nodes, legs) = (nodes(), legs(a, b, c));
-        let source = opened(&nodes, &legs, 0)?;
+        let source = source_over(&nodes, &legs, 0, 2)?;
         let mut buffer = [7u8; 2048];
         let answer = write(&source, &mut buffer[..room]);
         Ok((answer, buffer == [7u8; 2048]))
@@ -86,7 +74,7 @@ mod tests {
     #[test]
     fn bytes_beyond_the_image_stay(rt: HostRuntime) -> Result<(), Fail> {
         let (nodes, legs) = (nodes(), legs(1, 2, 3));
-        let source = opened(&nodes, &legs, 0)?;
+        let source = source_over(&nodes, &legs, 0, 2)?;
         let mut buffer = [7u8; 1600];
         write(&source, &mut buffer)?;
         assert!(rt; buffer[1536] == 7 && buffer[1599] == 7);
@@ -96,7 +84,7 @@ mod tests {
     #[test]
     fn copy_reads_back(rt: HostRuntime) -> Result<(), Fail> {
         let (nodes, legs) = (nodes(), legs(1, 2, 3));
-        let source = opened(&nodes, &legs, 1)?;
+        let source = source_over(&nodes, &legs, 1, 2)?;
         let mut buffer = [0u8; 1536];
         let mut copied = ImageSource::built_in();
         copy(&source, &mut buffer, &mut copied)?;
@@ -117,7 +105,7 @@ mod tests {
     // The sample network's image.
     fn image() -> Result<[u8; 1536], Fail> {
         let (nodes, legs) = (nodes(), legs(1, 2, 3));
-        let source = opened(&nodes, &legs, 0)?;
+        let source = source_over(&nodes, &legs, 0, 2)?;
         let mut image = [0u8; 1536];
         write(&source, &mut image)?;
         Ok(image)
