@@ -14,7 +14,7 @@ done
 cd "$work"
 cat > crates.txt <<'CRATES'
 network:
-layers: network
+layers: network arrayvec
 priced_sealed: network layers
 CRATES
 cat > crates/priced_sealed/src/lib.rt <<'PROGRAM'

@@ -1,4 +1,3 @@
-pub mod Counts
 pub mod Rings
 pub mod Piles
 pub mod Steps

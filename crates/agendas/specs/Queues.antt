@@ -1,12 +1,16 @@
 -- First in, first out.
-use Rattle.std.specs.Prelude.{◌≡◌, ℕ, List, [], ◌∷◌, ◌++◌, length, take, drop, Some, None, Ok, Err, Option, Result}
+use Rattle.std.specs.Prelude.{◌≡◌, ℕ, List, [], ◌∷◌, ◌++◌, ◌+◌, ◌-◌, cond, nat_lt, length, take, drop, Some, None, Ok, Err, Option, Result}
 use Rattle.agendas.specs.Bags.{room_for}
 use Rattle.agendas.specs.declared.fault.AgendaFault.{AgendaFault}
-use Rattle.agendas.specs.declared.ring.FirstIn.{FirstIn}
+use Rattle.agendas.specs.declared.first_in.FirstIn.{FirstIn}
 
 -- what waits in a ring: `count` numbers from `first` on, going on at the table's start
 abbrev pub ring : List ℕ → ℕ → ℕ → List ℕ
 ring table first count = take count (drop first table ++ table)
+
+-- the place that comes k after `first`, of n
+abbrev pub place : ℕ → ℕ → ℕ → ℕ
+place n first k = cond (nat_lt (first + k) n) (first + k) (first + k - n)
 
 -- what waits, the oldest first, and how much can wait
 abbrev pub queue : FirstIn → List ℕ

@@ -1,14 +1,26 @@
 //! The agenda that takes the oldest entry.
-ghost use Rattle.std.specs.Prelude.{◌≡◌, [], length};
-ghost use Rattle.agendas.specs.Bags.{PutSays, TakeSays, room_for};
-ghost use Rattle.agendas.specs.Queues.{queue, queue_room, QueuePut, QueueTake};
+ghost use Rattle.std.specs.Prelude.{◌≤◌, length};
+ghost use Rattle.agendas.specs.Bags.{room_for};
 
 use crate::agenda::Agenda;
 use crate::capacity::capacity_of;
 use crate::fault::AgendaFault;
-pub use crate::ring::FirstIn;
+
+/// First in, first out: a ring in a borrowed table.
+///
+/// `count` entries wait from the place `first` on, and go on at the table's start.
+#[derive(Drop)]
+pub struct FirstIn<'a> {
+    table: &'a mut [u16],
+    first: usize,
+    count: usize,
+    ghost sound: { (count ≤ room_for (length table.now)) × (first ≤ length table.now) },
+}
 
 impl<'a> FirstIn<'a> {
+    ghost use Rattle.std.specs.Prelude.{◌≡◌, ◌<◌, []};
+    ghost use Rattle.agendas.specs.Queues.{queue, queue_room, place};
+
     /// An empty agenda over a table.
     pub fn over(table: &'a mut [u16]) -> FirstIn<'a>
         ensures empty { queue result ≡ [] }
@@ -20,9 +32,28 @@ impl<'a> FirstIn<'a> {
             count: 0,
         }
     }
+
+    /// The place behind `k` entries.
+    fn place(&self, k: usize) -> usize
+        requires { k < length self.now.table.now }
+        ensures within { result < length self.now.table.now }
+        ensures value { result ≡ place (length self.now.table.now) self.now.first k }
+    {
+        let at = self.first + k;
+        if at < self.table.len() {
+            at
+        } else {
+            at - self.table.len()
+        }
+    }
 }
 
+#[tactic(auto, using(crate::proofs::Rings::rings))]
 impl<'a> Agenda for FirstIn<'a> {
+    ghost use Rattle.std.specs.Prelude.{◌≡◌};
+    ghost use Rattle.agendas.specs.Bags.{PutSays, TakeSays};
+    ghost use Rattle.agendas.specs.Queues.{queue, queue_room, QueuePut, QueueTake};
+
     ghost bag = { queue };
 
     ghost limit = { queue_room };
@@ -41,18 +72,13 @@ impl<'a> Agenda for FirstIn<'a> {
         ensures room { queue_room self.new ≡ queue_room self.old }
         ensures order { QueuePut result (queue self.old) (queue self.new) entry }
     {
-        let n = self.table.len();
-        if self.count >= capacity_of(n) {
+        if self.count == self.capacity() {
             return Err(AgendaFault::Full);
         }
-        let ahead = n - self.first;
-        let at = if self.count < ahead {
-            self.first + self.count
-        } else {
-            self.count - ahead
-        };
-        self.table[at] = entry;
-        self.count += 1;
+        let count = self.count;
+        let end = self.place(count);
+        self.table[end] = entry;
+        self.count = count + 1;
         Ok(())
     }
 
@@ -62,17 +88,9 @@ impl<'a> Agenda for FirstIn<'a> {
         ensures room { queue_room self.new ≡ queue_room self.old }
         ensures order { QueueTake result (queue self.old) (queue self.new) }
     {
-        if self.count == 0 {
-            return None;
-        }
-        let at = if self.first < self.table.len() {
-            self.first
-        } else {
-            0
-        };
-        let entry = self.table[at];
+        self.count = self.count.checked_sub(1)?;
+        let at = self.place(0);
         self.first = at + 1;
-        self.count -= 1;
-        Some(entry)
+        Some(self.table[at])
     }
 }

@@ -6,7 +6,6 @@ pub mod capacity;
 pub mod fault;
 pub mod first_in;
 mod heap;
-mod ring;
 #[cfg(test)]
 mod tests;
 pub mod time_first;

@@ -1,9 +1,9 @@
 //! Agendas by example.
-use crate::agenda::*;
-use crate::fault::*;
-use crate::first_in::*;
-use crate::time_first::*;
-use crate::timed::*;
+use crate::agenda::Agenda;
+use crate::fault::AgendaFault;
+use crate::first_in::FirstIn;
+use crate::time_first::TimeFirst;
+use crate::timed::Timed;
 use std::process::Abort;
 
 fn unused() -> Timed {
@@ -16,16 +16,16 @@ fn unused() -> Timed {
 
 /// Puts each entry, all with the same time and cost.
 fn put_all<A: Agenda>(rt: &impl Abort, agenda: &mut A, entries: &[u16]) {
-    for i in 0..entries.len() {
-        assert_eq!(rt; agenda.put(entries[i], 1, 1), Ok(()));
+    for entry in entries {
+        assert_eq!(rt; agenda.put(*entry, 1, 1), Ok(()));
     }
 }
 
 /// Takes what waits: these entries, in this order.
 fn take_all<A: Agenda>(rt: &impl Abort, agenda: &mut A, entries: &[u16]) {
     assert_eq!(rt; agenda.waiting(), entries.len());
-    for i in 0..entries.len() {
-        assert_eq!(rt; agenda.take(), Some(entries[i]));
+    for entry in entries {
+        assert_eq!(rt; agenda.take(), Some(*entry));
     }
     assert_eq!(rt; agenda.take(), None);
     assert_eq!(rt; agenda.waiting(), 0);
@@ -70,32 +70,27 @@ fn soonest_first(rt: HostRuntime) {
     take_all(&rt, &mut agenda, &[1, 2, 3, 4, 5, 6, 7, 8]);
 }
 
+/// An agenda with no room takes nothing.
+fn holds_none<A: Agenda>(rt: &impl Abort, agenda: &mut A) {
+    assert_eq!(rt; agenda.capacity(), 0);
+    assert_eq!(rt; agenda.put(1, 0, 0), Err(AgendaFault::Full));
+    take_all(rt, agenda, &[]);
+}
+
+/// An agenda with room for one takes one again and again.
+fn holds_one<A: Agenda>(rt: &impl Abort, agenda: &mut A) {
+    assert_eq!(rt; agenda.capacity(), 1);
+    for i in 0..3u16 {
+        put_all(rt, agenda, &[i]);
+        assert_eq!(rt; agenda.put(9, 0, 0), Err(AgendaFault::Full));
+        take_all(rt, agenda, &[i]);
+    }
+}
+
 #[test]
 fn no_room_and_one(rt: HostRuntime) {
-    let mut none: [u16; 0] = [];
-    let mut agenda = FirstIn::over(&mut none);
-    assert_eq!(rt; agenda.capacity(), 0);
-    assert_eq!(rt; agenda.put(1, 0, 0), Err(AgendaFault::Full));
-    take_all(&rt, &mut agenda, &[]);
-    let mut none: [Timed; 0] = [];
-    let mut agenda = TimeFirst::over(&mut none);
-    assert_eq!(rt; agenda.capacity(), 0);
-    assert_eq!(rt; agenda.put(1, 0, 0), Err(AgendaFault::Full));
-    take_all(&rt, &mut agenda, &[]);
-    let mut one = [0; 1];
-    let mut agenda = FirstIn::over(&mut one);
-    assert_eq!(rt; agenda.capacity(), 1);
-    for i in 0..3u16 {
-        put_all(&rt, &mut agenda, &[i]);
-        assert_eq!(rt; agenda.put(9, 0, 0), Err(AgendaFault::Full));
-        take_all(&rt, &mut agenda, &[i]);
-    }
-    let mut one = [unused(); 1];
-    let mut agenda = TimeFirst::over(&mut one);
-    assert_eq!(rt; agenda.capacity(), 1);
-    for i in 0..3u16 {
-        put_all(&rt, &mut agenda, &[i]);
-        assert_eq!(rt; agenda.put(9, 0, 0), Err(AgendaFault::Full));
-        take_all(&rt, &mut agenda, &[i]);
-    }
+    holds_none(&rt, &mut FirstIn::over(&mut []));
+    holds_none(&rt, &mut TimeFirst::over(&mut []));
+    holds_one(&rt, &mut FirstIn::over(&mut [0]));
+    holds_one(&rt, &mut TimeFirst::over(&mut [unused()]));
 }

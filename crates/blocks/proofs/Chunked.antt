@@ -19,7 +19,6 @@ pub record Chunks (w per : ℕ) : Type 0 where
   pub quotient : (n k r : ℕ) → r < in_block per n k → (per * k + r) / per ≡ k
   pub remainder : (n k r : ℕ) → r < in_block per n k → (per * k + r) % per ≡ r
   pub below : (n k r : ℕ) → r < in_block per n k → per * k + r < n
-  pub narrow : (n k r : ℕ) → r < in_block per n k → w * r + w ≤ 504
 
 pub chunks12 : Chunks 12 42
 chunks12 = record {
@@ -30,7 +29,6 @@ chunks12 = record {
   quotient = λ n k r h. omega arith;
   remainder = λ n k r h. omega arith;
   below = λ n k r h. omega arith;
-  narrow = λ n k r h. omega arith;
 }
 
 module _ (w per : ℕ) (c : Chunks w per) where

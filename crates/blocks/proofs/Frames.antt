@@ -98,7 +98,7 @@ unused_passes front from part b l = first_none (byte_fault (finished front) from
 
     zero_at : (k : ℕ) → k < 508 - from → get_or (finished front) (from + k) 0 ≡ 0
     zero_at k h =
-        let z : k < length (replicate (508 - length front) 0) = simp length-replicate (omega arith) in
+        let z : k < length (replicate {A = ℕ} (508 - length front) 0) = simp length-replicate (omega arith) in
         ap (λ t. get_or t (from + k) 0) (opened front)
         ∙ ap (λ j. get_or (front ++ (replicate (508 - length front) 0 ++ rest)) (j + k) 0) (sym l)
         ∙ get_or-append-add front (replicate (508 - length front) 0 ++ rest) k 0

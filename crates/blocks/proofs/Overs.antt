@@ -1,28 +1,11 @@
 -- Lists that are written over.
-use Rattle.std.proofs.Common.{◌≡◌, ℕ, suc, ◌+◌, ◌-◌, ◌≤◌, List, [], ◌∷◌, ◌++◌, length, take, drop, set, replicate, sym, refl, ap, ◌∙◌, add-zero, arith, length-append, length-drop, length-take}
+use Rattle.std.proofs.Common.{◌≡◌, ℕ, ◌+◌, ◌-◌, ◌≤◌, List, [], ◌∷◌, ◌++◌, length, take, drop, set, replicate, sym, refl, ap, ◌∙◌, add-zero, arith, length-append, length-drop, length-take}
 use borrow.Rule.Slice.PartMut.{put_mid, post_of}
 use Rattle.std.proofs.lemmas.List.{take-append-drop, drop_all, append_assoc, append-nil, take_at, drop_at, drop-drop, length-take-le}
-use Rattle.std.proofs.lemmas.List.Edits.{sets, sets-eq}
 use Rattle.blocks.specs.Numbers.{bytes16, plain_check, weighted_check}
 use Rattle.blocks.specs.Blocks.{body, finished}
 use Rattle.blocks.proofs.Frames.{plain_front, weighted_front}
 use Rattle.blocks.specs.Over.{over}
-
-pub sets_over : (vs l : List ℕ) (i : ℕ) → i + length vs ≤ length l → sets l i vs ≡ over l i vs
-unfolding over
-sets_over vs l i h = sets-eq vs l i h ∙ append_assoc (take i l) vs (drop (i + length vs) l)
-
-pub over2 : (l : List ℕ) (i a b : ℕ) → i + 2 ≤ length l → set (set l i a) (i + 1) b ≡ over l i (a ∷ b ∷ [])
-over2 l i a b h =
-    let e1 : i + 1 ≡ suc i = omega arith in
-    rw e1 (sets_over (a ∷ b ∷ []) l i (omega arith))
-
-pub over4 : (l : List ℕ) (i a b c d : ℕ) → i + 4 ≤ length l → set (set (set (set l i a) (i + 1) b) (i + 2) c) (i + 3) d ≡ over l i (a ∷ b ∷ c ∷ d ∷ [])
-over4 l i a b c d h =
-    let e1 : i + 1 ≡ suc i = omega arith in
-    let e2 : i + 2 ≡ suc (suc i) = omega arith in
-    let e3 : i + 3 ≡ suc (suc (suc i)) = omega arith in
-    rw (e1, e2, e3) (sets_over (a ∷ b ∷ c ∷ d ∷ []) l i (omega arith))
 
 pub length_over : (d : List ℕ) (at : ℕ) (s : List ℕ) → at + length s ≤ length d → length (over d at s) ≡ length d
 unfolding over
@@ -44,12 +27,6 @@ over-over d at s t n e h =
     let X : List ℕ = drop (at + length (s ++ t)) d in
     ap (λ (z : List ℕ). z ++ (t ++ drop (n + length t) (over d at s))) t1 ∙ ap (λ (z : List ℕ). P ++ (t ++ z)) t2
     ∙ append_assoc (take at d) s (t ++ X) ∙ ap (λ (z : List ℕ). take at d ++ z) (sym (append_assoc s t X))
-
-pub over_part : (d : List ℕ) (at : ℕ) (s : List ℕ) (n : ℕ) → n ≡ length s → at + n ≤ length d → take n (drop at (over d at s)) ≡ s
-unfolding over
-over_part d at s n e h =
-    let a : length (take at d) ≡ at = length-take-le at d (omega arith) in
-    ap (take n) (drop_at (take at d) (s ++ drop (at + length s) d) at a) ∙ take_at s (drop (at + length s) d) n (sym e)
 
 pub over-take : (d : List ℕ) (at : ℕ) (s : List ℕ) (n : ℕ) → n ≡ at + length s → n ≤ length d → take n (over d at s) ≡ take at d ++ s
 unfolding over

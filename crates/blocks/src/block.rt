@@ -1,10 +1,10 @@
 //! The frame of a block: judged, and written.
-ghost use Rattle.std.specs.Prelude.{◌≡◌, ℕ, ◌+◌, ◌-◌, ◌*◌, ◌<◌, ◌≤◌, ◌++◌, length, take, replicate};
+ghost use Rattle.std.specs.Prelude.{◌≡◌, ℕ, ◌+◌, ◌*◌, ◌≤◌, length, take};
 ghost use Rattle.std.specs.Result.{result_err};
 ghost use Rattle.blocks.specs.Blocks.{block_of, frame_fault, unused_fault, finished, start_bytes};
 
 use crate::bytes::{le16, put16};
-use crate::check::check_of;
+use crate::check::Check;
 use network::fault::{FileFault, FilePart};
 
 /// How many bytes a block has, and where its check stands.
@@ -12,22 +12,22 @@ pub const BLOCK_LEN: usize = 512;
 
 pub const CHECK_AT: usize = 508;
 
+/// The bytes of a block.
+pub type Block = [u8; BLOCK_LEN];
+
 /// Block `b` of an image.
-pub fn block_of(image: &[u8], b: usize) -> &[u8]
+pub fn block_of(image: &[u8], b: usize) -> &Block
     requires { 512 * b + 512 ≤ length image.now }
-    ensures value { result.now ≡ block_of image.now b }
-    ensures len { length result.now ≡ 512 }
+    ensures { result.now ≡ block_of image.now b }
 {
-    &image[BLOCK_LEN * b..BLOCK_LEN * b + BLOCK_LEN]
+    image[BLOCK_LEN * b..].first_chunk().unwrap()
 }
 
 /// Judges check, kind, zero byte and number of a block.
-pub fn frame(block: &[u8], kind: u8, number: u16) -> Result<(), FileFault>
-    requires { length block.now ≡ 512 }
+pub fn frame(block: &Block, kind: u8, number: u16) -> Result<(), FileFault>
     ensures { result_err result ≡ frame_fault block.now kind number }
 {
-    let check = check_of(block);
-    if le16(block, CHECK_AT) != check.plain || le16(block, CHECK_AT + 2) != check.weighted {
+    if Check::stored_in(block) != Check::of(block) {
         return Err(FilePart::Check.at(number, CHECK_AT as u16));
     }
     if block[0] != kind {
@@ -43,13 +43,12 @@ pub fn frame(block: &[u8], kind: u8, number: u16) -> Result<(), FileFault>
 }
 
 /// Judges the unused bytes of a block, from `from` up to the check.
-pub fn unused(block: &[u8], from: usize, part: FilePart, number: u16) -> Result<(), FileFault>
-    requires block_len { length block.now ≡ 512 }
-    requires from_bound { from ≤ 508 }
+pub fn unused(block: &Block, from: usize, part: FilePart, number: u16) -> Result<(), FileFault>
+    requires { from ≤ 508 }
     ensures { result_err result ≡ unused_fault block.now from part number }
 {
-    for k in 0..CHECK_AT - from {
-        if block[from + k] != 0 {
+    for (k, byte) in block[from..CHECK_AT].iter().enumerate() {
+        if *byte != 0 {
             return Err(part.at(number, (from + k) as u16));
         }
     }
@@ -57,8 +56,7 @@ pub fn unused(block: &[u8], from: usize, part: FilePart, number: u16) -> Result<
 }
 
 /// Begins a block: its kind and its number.
-pub fn start(block: &mut [u8], kind: u8, number: u16)
-    requires { length block.old ≡ 512 }
+pub fn start(block: &mut Block, kind: u8, number: u16)
     ensures { take 4 block.new ≡ start_bytes kind number }
 {
     block[0] = kind;
@@ -66,25 +64,11 @@ pub fn start(block: &mut [u8], kind: u8, number: u16)
     put16(block, 2, number);
 }
 
-// Zeros from `used` up to the check.
-fn clear(block: &mut [u8], used: usize)
-    requires block_len { length block.old ≡ 512 }
-    requires used_bound { used ≤ 508 }
-    ensures { take 508 block.new ≡ take used block.old ++ replicate (508 - used) 0 }
-{
-    for k in 0..CHECK_AT - used {
-        block[used + k] = 0;
-    }
-}
-
 /// Ends a block whose first `used` bytes are written.
-pub fn finish(block: &mut [u8], used: usize)
-    requires block_len { length block.old ≡ 512 }
-    requires used_bound { used ≤ 508 }
+pub fn finish(block: &mut Block, used: usize)
+    requires { used ≤ 508 }
     ensures { block.new ≡ finished (take used block.old) }
 {
-    clear(block, used);
-    let check = check_of(block);
-    put16(block, CHECK_AT, check.plain);
-    put16(block, CHECK_AT + 2, check.weighted);
+    block[used..CHECK_AT].fill(0);
+    Check::of(block).store_in(block);
 }

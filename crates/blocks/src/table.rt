@@ -2,7 +2,7 @@
 ghost use Rattle.std.specs.Prelude.{◌≡◌, ℕ, ◌+◌, ◌*◌, ◌/◌, ◌%◌, ◌<◌, ◌≤◌, length};
 ghost use Rattle.blocks.specs.Tables.{TablesStand, blocks_for, in_block, record_of, record_at};
 
-use crate::block::block_of;
+use crate::block::{Block, block_of};
 
 /// How many records a block holds, and how many bytes each takes.
 pub const PER_BLOCK: usize = 42;
@@ -25,9 +25,9 @@ pub fn in_block(n: usize, k: usize) -> usize
 }
 
 /// Record `r` of a block of records of `width` bytes.
-pub fn record_of(block: &[u8], width: usize, r: usize) -> &[u8]
-    requires len { length block.now ≡ 512 }
-    requires room { 4 + width * r + width ≤ 512 }
+#[tactic(auto, unfolding(crate::specs::Tables::record_of))]
+pub fn record_of(block: &Block, width: usize, r: usize) -> &[u8]
+    requires { 4 + width * r + width ≤ 512 }
     ensures value { result.now ≡ record_of width block.now r }
     ensures len { length result.now ≡ width }
 {
@@ -36,6 +36,7 @@ pub fn record_of(block: &[u8], width: usize, r: usize) -> &[u8]
 }
 
 /// Record `i` of a table whose first block has the number `base`, with `per` records of `width` bytes to a block.
+#[tactic(auto, unfolding(crate::specs::Tables::record_at))]
 pub fn record_at(image: &[u8], width: usize, per: usize, base: usize, i: usize) -> &[u8]
     requires some { 0 < per }
     requires block { 512 * (base + i / per) + 512 ≤ length image.now }
@@ -47,8 +48,7 @@ pub fn record_at(image: &[u8], width: usize, per: usize, base: usize, i: usize) 
 }
 
 /// A table that is written is read again, and one that is read is written again.
-pub fn tables_stand() -> u8
+#[tactic(auto, using(crate::proofs::Chunked::kept, crate::proofs::Chunked::chunks12))]
+pub fn tables_stand()
     ensures { TablesStand }
-{
-    0
-}
+{}

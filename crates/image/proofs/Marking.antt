@@ -1,7 +1,10 @@
 -- Marks on sound leg blocks.
-use Rattle.std.proofs.Common.{◌≡◌, ℕ, zero, suc, ◌<◌, Bool, true, false, List, length, get_or, set, replicate, is_some, is_ok, Ok, Err, Option, Result, sym, refl, ap, ◌∙◌, ⊎_elim, get_or-set_other, get_or-set_same}
-use Rattle.std.specs.Result.{result_err}
-use Rattle.std.proofs.lemmas.Bool.{cases_eq, true≢false}
+use Rattle.std.proofs.Common.{◌≡◌, refl, ℕ, zero, suc, ◌+◌, ◌<◌, ◌≤◌, Bool, true, false, ◌&&◌, not, List, length, get_or, replicate, is_some, sym, ◌∙◌, subst, ⊎_elim, arith}
+use Rattle.std.proofs.lemmas.Bool.{cases_eq, cases_lt, true≢false, and_parts, not-true}
+use Rattle.std.proofs.lemmas.List.{get_or_past}
+use Rattle.std.specs.Fn.{Called}
+use Rattle.std.specs.Array.{IsFromFnResultFrom}
+use denote.Param.Members.{Mut}
 use Rattle.image_format.specs.Judge.{leg_block_fault_at}
 use Rattle.image.specs.Marks.{Marked}
 
@@ -14,14 +17,21 @@ blank (suc n) (suc k) = blank n k
 pub unmarked : {X : Type 0} (n k : ℕ) → get_or (replicate n false) k false ≡ true → X
 unmarked n k e = absurd (true≢false (sym e ∙ blank n k))
 
-pub sound_ok : {X E : Type 0} (r : Result X E) (o : Option E) → result_err r ≡ o → is_ok r ≡ true → is_some o ≡ false
-sound_ok (Ok x) o e t = ap is_some (sym e)
-sound_ok (Err x) o e t = absurd (true≢false (sym t))
-
--- one more block
-pub mark_more : (marks : List Bool) (image : List ℕ) (k : ℕ) (b : Bool) → Marked marks image → k < length marks → (b ≡ true → is_some (leg_block_fault_at image k) ≡ false) → Marked (set marks k b) image
-mark_more marks image k b m h s j e =
+-- what calls of a function that stays as it is gave, place by place
+pub given_each : {F B : Type 0} (g : Mut F (ℕ × Unit {0}) B) (P : ℕ → B → Type 0) (f : F) → ((j : ℕ) (y : B) (q : F) → Called g f (j, tt) y q → (q ≡ f) × P j y)
+    → (ys : List B) (i n : ℕ) → IsFromFnResultFrom g f ys i n → (j : ℕ) → i ≤ j → j < i + n → (d : B) → P j (get_or ys j d)
+given_each g P f s ys i zero h j l u d = absurd (omega arith)
+given_each g P f s ys i (suc n) (q, y, el, called, rest) j l u d =
+    let k = s i y q called in
     ⊎_elim
-    (λ (q : j ≡ k). ap (λ z. is_some (leg_block_fault_at image z)) q ∙ s (sym (get_or-set_same marks k b false h) ∙ ap (λ z. get_or (set marks k b) z false) (sym q) ∙ e))
-    (λ (q : j ≡ k → ⊥). m j (sym (get_or-set_other marks k j b false q) ∙ e))
-    (cases_eq j k)
+    (λ (e : j ≡ i). subst (λ (m : ℕ). P m (get_or ys m d)) (sym e) (subst (P i) (sym (el.1 d)) k.1))
+    (λ (e : j ≡ i → ⊥). given_each g P f s ys (i + 1) n (subst (λ z. IsFromFnResultFrom g z ys (i + 1) n) k.0 rest) j (omega arith) (omega arith) d)
+    (cases_eq j i)
+
+-- marks that tell which blocks are there and sound
+pub marked_by : (there : ℕ → Bool) (marks : List Bool) (image : List ℕ) → ((k : ℕ) → k < length marks → get_or marks k false ≡ (there k && not (is_some (leg_block_fault_at image k)))) → Marked marks image
+marked_by there marks image h k e =
+    ⊎_elim
+    (λ (l : k < length marks). not-true _ (and_parts _ _ (sym (h k l) ∙ e)).1)
+    (λ (l : length marks ≤ k). absurd (true≢false (sym e ∙ get_or_past marks k false l)))
+    (cases_lt k (length marks))

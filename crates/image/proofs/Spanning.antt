@@ -1,85 +1,52 @@
 -- Rows by their spans.
-use Rattle.std.proofs.Common.{◌≡◌, ℕ, ◌+◌, ◌-◌, ◌<◌, ◌≤◌, List, Some, None, Ok, Err, Option, Result, sym, refl, ap, ◌∙◌, ⊎_elim, arith}
-use Rattle.std.proofs.lemmas.Bool.{le-ltb, cond-false, cases_lt}
+use Rattle.std.proofs.Common.{◌≡◌, ℕ, ◌+◌, ◌-◌, ◌<◌, ◌≤◌, List, None, Ok, Err, Result, sym, ap, ◌∙◌, arith}
+use Rattle.std.proofs.lemmas.Bool.{le-ltb, cond-false}
 use Rattle.network.specs.Answers.{if_node, length_answer, leg_answer}
-use Rattle.network.specs.Refusals.{NetworkRefusal, no_node, no_such_leg, unreadable}
-use Rattle.network.specs.declared.fault.FileFault.{FileFault}
-use Rattle.network.proofs.Facts.{at_node_lem}
+use Rattle.network.specs.Refusals.{NetworkRefusal, no_node, no_such_leg}
 use Rattle.network.proofs.Starts.{start_most, start_rises}
 use Rattle.image_format.specs.Layout.{nodes_in, legs_in, first_leg_of, start}
 use Rattle.image_format.specs.Judge.{Sound}
 use Rattle.image_format.specs.Decode.{span_fault, leg_at, image_net}
 use Rattle.image_format.proofs.Sounds.{Facts, sound_facts, ordered}
-use Rattle.image_format.proofs.Told.{length_refused, leg_refused, length_given, leg_given, leg_missing}
-use Rattle.image.specs.Spans.{span_at, span_by, span_answer}
-use Rattle.image.specs.declared.answers.Span.{Span}
+use Rattle.image_format.proofs.Told.{length_given, leg_given, leg_missing}
+use Rattle.image.specs.Spans.{IsSpan, IsRefused}
 
-off_node : {X : Type 0} (s : List ℕ) (i : ℕ) (a : Result X NetworkRefusal) → nodes_in s ≤ i → if_node (image_net s) i a ≡ Err (no_node i)
-off_node s i a h = cond-false _ _ _ (le-ltb _ _ h)
+pub row_end : (s : List ℕ) (i : ℕ) → Sound s → start s (i + 1) ≤ legs_in s
+row_end s i e = let f : Facts s = sound_facts s e in start_most (first_leg_of s) (nodes_in s) (legs_in s) f.some (ordered s f) (i + 1)
 
--- the bounds of a row
-pub record Within (s : List ℕ) (i : ℕ) : Type 0 where
-  pub rises : i < nodes_in s → start s i ≤ start s (i + 1)
-  pub most : start s (i + 1) ≤ legs_in s
-  pub few : legs_in s ≤ 20000
-
-pub within : (s : List ℕ) (i : ℕ) → Sound s → Within s i
-within s i e =
+pub is_span : (s : List ℕ) (i from to : ℕ) → Sound s → i < nodes_in s → from ≡ start s i → to ≡ start s (i + 1) → span_fault s from to ≡ None → IsSpan s i from to
+is_span s i from to e h a b r =
     let f : Facts s = sound_facts s e in
+    let rises = start_rises (first_leg_of s) (nodes_in s) (legs_in s) f.some (ordered s f) i h in
+    let within = row_end s i e in
     record {
-      rises = start_rises (first_leg_of s) (nodes_in s) (legs_in s) f.some (ordered s f) i;
-      most = start_most (first_leg_of s) (nodes_in s) (legs_in s) f.some (ordered s f) (i + 1);
+      node_in = h;
+      readable = ap (λ z. span_fault s z (start s (i + 1))) (sym a) ∙ ap (span_fault s from) (sym b) ∙ r;
+      starts = a;
+      ends = b;
+      rises = omega arith;
+      within = omega arith;
       few = f.few;
     }
 
--- a span that is given
-pub record Given (s : List ℕ) (i : ℕ) (p : Span) : Type 0 where
-  pub node_in : i < nodes_in s
-  pub readable : span_fault s (start s i) (start s (i + 1)) ≡ None
-  pub from_is : p.from ≡ start s i
-  pub to_is : p.to ≡ start s (i + 1)
+no_row : {X : Type 0} (s : List ℕ) (i : ℕ) (a : Result X NetworkRefusal) → nodes_in s ≤ i → Err (no_node i) ≡ if_node (image_net s) i a
+no_row s i a h = sym (cond-false _ _ _ (le-ltb _ _ h))
 
-by_given : (s : List ℕ) (i : ℕ) (o : Option FileFault) (p : Span) → i < nodes_in s → span_fault s (start s i) (start s (i + 1)) ≡ o → Ok p ≡ span_by i o (span_at s i) → Given s i p
-by_given s i None p h e q =
-    let z : p ≡ span_at s i = cc q in
-    record { node_in = h; readable = e; from_is = ap (λ t. t.from) z; to_is = ap (λ t. t.to) z }
-by_given s i (Some f) p h e q = let z : ◌≡◌ {A = ℕ} 0 1 = cc in absurd (omega arith)
+pub no_node_refused : (s : List ℕ) (i : ℕ) → nodes_in s ≤ i → IsRefused s i (no_node i)
+no_node_refused s i h = record { length = no_row s i _ h; leg = λ k. no_row s i _ h }
 
-pub given_span : (s : List ℕ) (i : ℕ) (p : Span) → Ok p ≡ span_answer s i → Given s i p
-given_span s i p e =
-    ⊎_elim
-    (λ (h : i < nodes_in s). by_given s i (span_fault s (start s i) (start s (i + 1))) p h refl (e ∙ at_node_lem (image_net s) i _ h))
-    (λ (h : nodes_in s ≤ i). let q = e ∙ off_node s i _ h in let z : ◌≡◌ {A = ℕ} 0 1 = cc in absurd (omega arith))
-    (cases_lt i (nodes_in s))
+pub length_of : (s : List ℕ) (i from to : ℕ) → IsSpan s i from to → Ok (to - from) ≡ length_answer (image_net s) i
+length_of s i from to p =
+    ap (λ z. Ok (z - from)) p.ends ∙ ap (λ z. Ok (start s (i + 1) - z)) p.starts ∙ sym (length_given s i p.node_in p.readable)
 
--- a refusal of the span is one of its length and of its legs
-by_refused : (s : List ℕ) (i : ℕ) (o : Option FileFault) (r : NetworkRefusal) → i < nodes_in s → span_fault s (start s i) (start s (i + 1)) ≡ o → Err r ≡ span_by i o (span_at s i) → (Err r ≡ length_answer (image_net s) i) × ((k : ℕ) → Err r ≡ leg_answer (image_net s) i k)
-by_refused s i None r h e q = let z : ◌≡◌ {A = ℕ} 0 1 = cc in absurd (omega arith)
-by_refused s i (Some f) r h e q =
-    let z : r ≡ unreadable i f = cc q in
-    (ap Err z ∙ sym (length_refused s i h f e), λ k. ap Err z ∙ sym (leg_refused s i h k f e))
+pub leg_of : (s : List ℕ) (i from to k : ℕ) → IsSpan s i from to → from + k < to → Ok (leg_at s (from + k)) ≡ leg_answer (image_net s) i k
+leg_of s i from to k p h =
+    let a = p.starts in
+    let b = p.ends in
+    ap (λ z. Ok (leg_at s (z + k))) a ∙ sym (leg_given s i p.node_in p.readable k (omega arith))
 
-pub refused_span : (s : List ℕ) (i : ℕ) (r : NetworkRefusal) → Err r ≡ span_answer s i → (Err r ≡ length_answer (image_net s) i) × ((k : ℕ) → Err r ≡ leg_answer (image_net s) i k)
-refused_span s i r e =
-    ⊎_elim
-    (λ (h : i < nodes_in s). by_refused s i (span_fault s (start s i) (start s (i + 1))) r h refl (e ∙ at_node_lem (image_net s) i _ h))
-    (λ (h : nodes_in s ≤ i).
-    let z : r ≡ no_node i = cc (e ∙ off_node s i _ h) in
-    (ap Err z ∙ sym (off_node s i _ h), λ k. ap Err z ∙ sym (off_node s i _ h)))
-    (cases_lt i (nodes_in s))
-
-pub length_of : (s : List ℕ) (i : ℕ) (p : Span) → Given s i p → Ok (p.to - p.from) ≡ length_answer (image_net s) i
-length_of s i p g =
-    ap (λ z. Ok (z - p.from)) g.to_is ∙ ap (λ z. Ok (start s (i + 1) - z)) g.from_is ∙ sym (length_given s i g.node_in g.readable)
-
-pub leg_of : (s : List ℕ) (i : ℕ) (p : Span) (k : ℕ) → Given s i p → p.from + k < p.to → Ok (leg_at s (p.from + k)) ≡ leg_answer (image_net s) i k
-leg_of s i p k g h =
-    let a : p.from ≡ start s i = g.from_is in
-    let b : p.to ≡ start s (i + 1) = g.to_is in
-    ap (λ z. Ok (leg_at s (z + k))) a ∙ sym (leg_given s i g.node_in g.readable k (omega arith))
-
-pub leg_beyond : (s : List ℕ) (i : ℕ) (p : Span) (k : ℕ) → Given s i p → p.to ≤ p.from + k → Err (no_such_leg i) ≡ leg_answer (image_net s) i k
-leg_beyond s i p k g h =
-    let a : p.from ≡ start s i = g.from_is in
-    let b : p.to ≡ start s (i + 1) = g.to_is in
-    sym (leg_missing s i g.node_in g.readable k (omega arith))
+pub leg_beyond : (s : List ℕ) (i from to k : ℕ) → IsSpan s i from to → to ≤ from + k → Err (no_such_leg i) ≡ leg_answer (image_net s) i k
+leg_beyond s i from to k p h =
+    let a = p.starts in
+    let b = p.ends in
+    sym (leg_missing s i p.node_in p.readable k (omega arith))

@@ -1,19 +1,22 @@
--- The legs of a row, by their numbers in the whole image.
-use Rattle.std.specs.Prelude.{ℕ, ◌+◌, List, Some, None, Ok, Err, Option, Result}
-use Rattle.network.specs.Answers.{if_node}
-use Rattle.network.specs.Refusals.{NetworkRefusal, unreadable}
-use Rattle.network.specs.declared.fault.FileFault.{FileFault}
-use Rattle.image_format.specs.Layout.{start}
+-- Where a row stands among the legs, or why it is refused.
+use Rattle.std.specs.Prelude.{◌≡◌, ℕ, ◌+◌, ◌<◌, ◌≤◌, List, None, Err}
+use Rattle.network.specs.Answers.{length_answer, leg_answer}
+use Rattle.network.specs.Limits.{most_legs}
+use Rattle.network.specs.Refusals.{NetworkRefusal}
+use Rattle.image_format.specs.Layout.{nodes_in, legs_in, start}
 use Rattle.image_format.specs.Decode.{span_fault, image_net}
-use Rattle.image.specs.declared.answers.Span.{Span}
 
-abbrev pub span_at : List ℕ → ℕ → Span
-span_at image i = record { from = start image i; to = start image (i + 1) }
+-- the row of node i, which is there and can be read, is the legs with the numbers `from` to before `to`
+pub record IsSpan (image : List ℕ) (i from to : ℕ) : Type 0 where
+  pub node_in : i < nodes_in image
+  pub readable : span_fault image (start image i) (start image (i + 1)) ≡ None
+  pub starts : from ≡ start image i
+  pub ends : to ≡ start image (i + 1)
+  pub rises : from ≤ to
+  pub within : to ≤ legs_in image
+  pub few : legs_in image ≤ most_legs
 
--- the span of a row that can be read
-abbrev pub span_by : ℕ → Option FileFault → Span → Result Span NetworkRefusal
-span_by i None s = Ok s
-span_by i (Some f) s = Err (unreadable i f)
-
-abbrev pub span_answer : List ℕ → ℕ → Result Span NetworkRefusal
-span_answer image i = if_node (image_net image) i (span_by i (span_fault image (start image i) (start image (i + 1))) (span_at image i))
+-- what asks for the row of node i is refused so
+pub record IsRefused (image : List ℕ) (i : ℕ) (r : NetworkRefusal) : Type 0 where
+  pub length : Err r ≡ length_answer (image_net image) i
+  pub leg : (k : ℕ) → Err r ≡ leg_answer (image_net image) i k

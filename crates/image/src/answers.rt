@@ -1,34 +1,27 @@
 //! What an image answers.
-ghost use Rattle.std.specs.Prelude.{◌≡◌, ℕ, ◌<◌, ◌≤◌};
+ghost use Rattle.std.specs.Prelude.{◌≡◌, ◌<◌, ◌≤◌, MatchResult};
 ghost use Rattle.std.specs.Result.{result_err};
-ghost use Rattle.network.specs.Refusals.{told};
+ghost use Rattle.network.specs.Limits.{most_legs};
+ghost use Rattle.network.specs.Refusals.{network_refusal};
 ghost use Rattle.blocks.specs.Tables.{blocks_for};
 ghost use Rattle.image_format.specs.Layout.{legs_in};
 ghost use Rattle.image_format.specs.Judge.{leg_block_fault_at};
 ghost use Rattle.image_format.specs.Decode.{image_net, blocks_over, span_fault};
 ghost use Rattle.image_format.proofs.Lawfuls.{image_lawful};
-ghost use Rattle.image.specs.Spans.{span_answer};
+ghost use Rattle.image.specs.Spans.{IsSpan, IsRefused};
 
-use crate::legs::{leg_at, leg_block_at};
-use crate::nodes::{header_block, node_count, node_record, start};
 use crate::source::ImageSource;
-use blocks::bytes::{le16, le32};
 use blocks::table::{PER_BLOCK, blocks_for};
 use image_format::MAX_COST;
+use network::each::check_each;
 use network::fault::{FileFault, NetworkFault, met_at};
 use network::leg::{Leg, Window};
 use network::network::Network;
+use std::ops::Range;
 
-/// Legs of an image, from the number `from` up to before `to`.
-#[derive(Clone, Copy)]
-pub(crate) struct Span {
-    from: usize,
-    to: usize,
-}
-
-// How many leg blocks hold the legs of a span.
+/// How many leg blocks hold the legs from `from` to before `to`.
 fn blocks_over(from: usize, to: usize) -> usize
-    requires { to ≤ 20000 }
+    requires { to ≤ most_legs }
     ensures { result ≡ blocks_over from to }
 {
     if from < to {
@@ -39,7 +32,7 @@ fn blocks_over(from: usize, to: usize) -> usize
 }
 
 impl ImageSource<'_> {
-    // Judges leg block `k`, counted from 0.
+    /// Judges leg block `k`, counted from 0.
     fn leg_block(&self, k: usize) -> Result<(), FileFault>
         requires { k < blocks_for 42 (legs_in self.now.image.now) }
         ensures { result_err result ≡ leg_block_fault_at self.now.image.now k }
@@ -47,32 +40,34 @@ impl ImageSource<'_> {
         if self.marks[k] {
             Ok(())
         } else {
-            leg_block_at(self.image, k)
+            self.layout().judge_leg_block(k)
         }
     }
 
-    // Judges the leg blocks that hold a leg of a span.
+    /// Judges the leg blocks that hold a leg from `from` to before `to`.
+    #[tactic(auto, unfolding(image_format::specs::Decode::span_fault))]
+    // Two numbers: with a `&Range<usize>` what the closure asks found no proof.
     fn readable(&self, from: usize, to: usize) -> Result<(), FileFault>
         requires { to ≤ legs_in self.now.image.now }
         ensures { result_err result ≡ span_fault self.now.image.now from to }
     {
-        for k in 0..blocks_over(from, to) {
-            self.leg_block(from / PER_BLOCK + k)?;
-        }
-        Ok(())
+        check_each(
+            blocks_over(from, to),
+            |k| self.leg_block(from / PER_BLOCK + k),
+        )
     }
 
-    // The span of the row of node `i`, where it can be read.
-    fn row(&self, i: u16) -> Result<Span, NetworkFault>
-        ensures { told result ≡ span_answer self.now.image.now i }
+    /// Where the row of node `i` stands among the legs, where it can be read.
+    fn row(&self, i: u16) -> Result<Range<usize>, NetworkFault>
+        ensures { MatchResult result (λ row. IsSpan self.now.image.now i row.start row.end) (λ f. IsRefused self.now.image.now i (network_refusal f)) }
     {
-        if i >= node_count(self.image) {
+        let layout = self.layout();
+        if i >= layout.nodes {
             return Err(NetworkFault::NoNode { node: i });
         }
-        let from = start(self.image, i as usize) as usize;
-        let to = start(self.image, i as usize + 1) as usize;
-        met_at(self.readable(from, to), i)?;
-        Ok(Span { from, to })
+        let row = layout.row(i as usize);
+        met_at(self.readable(row.start, row.end), i)?;
+        Ok(row)
     }
 }
 
@@ -82,15 +77,15 @@ impl Network for ImageSource<'_> {
     ghost lawful = { λ s. image_lawful s.image.now s.sound };
 
     fn node_count(&self) -> u16 {
-        node_count(self.image)
+        self.header().nodes
     }
 
     fn depot(&self) -> u16 {
-        le16(header_block(self.image), 6)
+        self.header().depot
     }
 
     fn sink(&self) -> u16 {
-        le16(header_block(self.image), 8)
+        self.header().sink
     }
 
     fn reach(&self) -> u32 {
@@ -98,27 +93,26 @@ impl Network for ImageSource<'_> {
     }
 
     fn window(&self, i: u16) -> Result<Window, NetworkFault> {
-        if i >= node_count(self.image) {
+        let layout = self.layout();
+        if i >= layout.nodes {
             return Err(NetworkFault::NoNode { node: i });
         }
-        let t = node_record(self.image, i as usize);
-        Ok(Window {
-            opens: le32(t, 0),
-            closes: le32(t, 4),
-        })
+        Ok(layout.node(i as usize).window)
     }
 
+    #[tactic(auto, using(crate::proofs::Spanning::length_of))]
     fn row_len(&self, i: u16) -> Result<u16, NetworkFault> {
         let row = self.row(i)?;
-        Ok((row.to - row.from) as u16)
+        Ok(row.len() as u16)
     }
 
+    #[tactic(auto, using(crate::proofs::Spanning::leg_beyond))]
     fn leg(&self, i: u16, k: u16) -> Result<Leg, NetworkFault> {
         let row = self.row(i)?;
-        let j = row.from + k as usize;
-        if j >= row.to {
+        let j = row.start + k as usize;
+        if j >= row.end {
             return Err(NetworkFault::NoLeg { node: i });
         }
-        Ok(leg_at(self.image, j))
+        Ok(self.layout().leg(j))
     }
 }

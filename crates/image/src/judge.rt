@@ -1,156 +1,143 @@
 //! What opening an image judges: its length, its header and its node blocks.
-ghost use Rattle.std.specs.Prelude.{◌≡◌, ℕ, ◌+◌, ◌*◌, ◌/◌, ◌<◌, ◌≤◌, length};
+ghost use Rattle.std.specs.Prelude.{◌≡◌, ℕ, ◌+◌, ◌*◌, ◌/◌, ◌<◌, ◌≤◌, length, IfOk, Option};
 ghost use Rattle.std.specs.Result.{result_err};
-ghost use Rattle.network.specs.First.{first_of};
+ghost use Rattle.network.specs.First.{unless, first_of};
+ghost use Rattle.network.specs.declared.fault.FileFault.{FileFault};
 ghost use Rattle.network.specs.Rows.{least_first, most_first};
-ghost use Rattle.blocks.specs.Tables.{blocks_for};
-ghost use Rattle.image_format.specs.Layout.{first_leg_of};
-ghost use Rattle.image_format.specs.Judge.{judge as judgement, header_fault, node_fault, node_fault_at, node_block_fault};
+ghost use Rattle.blocks.specs.Tables.{blocks_for, in_block};
+ghost use Rattle.image_format.specs.Layout.{first_leg_of, header_in};
+ghost use Rattle.image_format.specs.Judge.{judge as judgement, header_fault, node_fault_at, node_block_fault, table_block_fault};
 
-use crate::nodes::{first_leg, node_record};
-use blocks::block::{BLOCK_LEN, block_of, frame, unused};
-use blocks::bytes::{le16, le32};
+use crate::layout::Layout;
+use blocks::block::{BLOCK_LEN, Block, block_of, frame, unused};
 use blocks::table::{PER_BLOCK, WIDTH, blocks_for, in_block};
-use image_format::{HEADER_KIND, NODE_KIND, image_len};
+use image_format::header::Header;
+use image_format::{BlockKind, image_len};
+use network::each::check_each;
 use network::fault::{FileFault, FilePart};
 use network::limits::{MAX_LEGS, MAX_NODES, MAX_TIME};
 
-const WRONG_SIZE: FileFault = FileFault {
-    part: FilePart::Size,
-    block: 0,
-    byte: 0,
-};
+/// Refuses with a fault unless a test holds.
+pub(crate) fn unless(holds: bool, fault: FileFault) -> Result<(), FileFault>
+    ensures { result_err result ≡ unless holds fault }
+{
+    if holds { Ok(()) } else { Err(fault) }
+}
 
-fn header(block: &[u8]) -> Result<(), FileFault>
-    requires { length block.now ≡ 512 }
+fn judge_header(block: &Block) -> Result<(), FileFault>
     ensures { result_err result ≡ header_fault block.now }
 {
-    let n = le16(block, 4);
-    if n < 1 || n > MAX_NODES {
-        return Err(FilePart::Header.at(0, 4));
-    }
-    if le16(block, 6) >= n {
-        return Err(FilePart::Header.at(0, 6));
-    }
-    if le16(block, 8) >= n {
-        return Err(FilePart::Header.at(0, 8));
-    }
-    if le32(block, 10) > MAX_LEGS {
-        return Err(FilePart::Header.at(0, 10));
-    }
+    let header = Header::stored_in(block);
+    unless(
+        1 <= header.nodes && header.nodes <= MAX_NODES,
+        FilePart::Header.at(0, 4),
+    )?;
+    unless(header.depot < header.nodes, FilePart::Header.at(0, 6))?;
+    unless(header.sink < header.nodes, FilePart::Header.at(0, 8))?;
+    unless(header.legs <= MAX_LEGS, FilePart::Header.at(0, 10))?;
     unused(block, 14, FilePart::Header, 0)
 }
 
-// The least that the first leg of node `i` may be.
-fn least_first(image: &[u8], i: usize) -> u32
-    requires { 512 * (1 + i / 42) + 512 ≤ length image.now }
-    ensures { result ≡ least_first (first_leg_of image.now) i }
+/// The most that the first leg of node `i` may be.
+fn most_first(legs: u32, i: usize) -> u32
+    ensures { result ≡ most_first legs i }
 {
-    if i == 0 { 0 } else { first_leg(image, i - 1) }
+    if i == 0 { 0 } else { legs }
 }
 
-// The most that the first leg of node `i` may be, of `m` legs.
-fn most_first(m: u32, i: usize) -> u32
-    ensures { result ≡ most_first m i }
+/// Judges a block of a table: its frame, each of its records, and that nothing stands after them.
+pub(crate) fn judge_block<F: Fn(usize) -> Result<(), FileFault>>(
+    block: &Block,
+    kind: BlockKind,
+    number: u16,
+    count: usize,
+    judge_record: F,
+) -> Result<(), FileFault>
+    requires few { count ≤ 42 }
+    requires callable { (r : ℕ) → r < count → F.pre judge_record r }
+    ensures { (f : ℕ → Option FileFault) → ((r : ℕ) (x : _) → r < count → F.post judge_record r x → result_err x ≡ f r) → result_err result ≡ table_block_fault block.now kind number count f }
 {
-    if i == 0 { 0 } else { m }
+    frame(block, kind as u8, number)?;
+    check_each(count, judge_record)?;
+    unused(block, 4 + WIDTH * count, kind.part(), number)
 }
 
-// Judges the node record `t`, which stands at `byte` of a block, and whose first leg lies from `low` to `high`.
-fn node_fault(t: &[u8], block: u16, byte: u16, low: u32, high: u32) -> Result<(), FileFault>
-    requires t_len { length t.now ≡ 12 }
-    requires byte_bound { byte < 512 }
-    ensures { result_err result ≡ node_fault t.now block byte low high }
-{
-    let opens = le32(t, 0);
-    let closes = le32(t, 4);
-    let first = le32(t, 8);
-    if opens > MAX_TIME {
-        return Err(FilePart::NodeTable.at(block, byte));
+impl Layout<'_> {
+    /// The least that the first leg of node `i` may be.
+    fn least_first(&self, i: usize) -> u32
+        requires { i < self.now.nodes }
+        ensures { result ≡ least_first (first_leg_of self.now.image.now) i }
+    {
+        if i == 0 {
+            0
+        } else {
+            self.node(i - 1).first_leg
+        }
     }
-    if closes < opens || closes > MAX_TIME {
-        return Err(FilePart::NodeTable.at(block, byte + 4));
+
+    /// Judges record `r` of node block `k`, counted from 0.
+    #[tactic(auto, unfolding(image_format::specs::Judge::node_fault))]
+    fn judge_node(&self, k: usize, r: usize) -> Result<(), FileFault>
+        requires there { 42 * k + r < self.now.nodes }
+        requires r_bound { r < 42 }
+        ensures { result_err result ≡ node_fault_at self.now.image.now self.now.legs k r }
+    {
+        let i = PER_BLOCK * k + r;
+        let node = self.node(i);
+        let hours = node.window;
+        let low = self.least_first(i);
+        let high = most_first(self.legs, i);
+        let part = FilePart::NodeTable;
+        let block = (1 + k) as u16;
+        let byte = (4 + WIDTH * r) as u16;
+        unless(hours.opens <= MAX_TIME, part.at(block, byte))?;
+        unless(
+            hours.opens <= hours.closes && hours.closes <= MAX_TIME,
+            part.at(block, byte + 4),
+        )?;
+        unless(
+            low <= node.first_leg && node.first_leg <= high,
+            part.at(block, byte + 8),
+        )
     }
-    if first < low || first > high {
-        return Err(FilePart::NodeTable.at(block, byte + 8));
+
+    #[tactic(auto, unfolding(image_format::specs::Judge::node_block_fault))]
+    fn judge_node_block(&self, k: usize) -> Result<(), FileFault>
+        requires { k < blocks_for 42 self.now.nodes }
+        ensures { result_err result ≡ node_block_fault self.now.image.now self.now.nodes self.now.legs k }
+    {
+        let number = 1 + k;
+        let block = block_of(self.image, number);
+        let count = in_block(self.nodes as usize, k);
+        judge_block(block, BlockKind::Nodes, number as u16, count, |r| {
+            self.judge_node(k, r)
+        })
     }
-    Ok(())
+
+    fn judge_nodes(&self) -> Result<(), FileFault>
+        ensures { result_err result ≡ first_of (node_block_fault self.now.image.now self.now.nodes self.now.legs) (blocks_for 42 self.now.nodes) }
+    {
+        check_each(
+            blocks_for(self.nodes as usize),
+            |k| self.judge_node_block(k),
+        )
+    }
 }
 
-// Judges record `r` of node block `k`, counted from 0.
-fn node_fault_at(image: &[u8], m: u32, k: usize, r: usize) -> Result<(), FileFault>
-    requires k_in_bounds { 512 * (1 + k) + 512 ≤ length image.now }
-    requires k_bound { k < 2000 }
-    requires r_bound { r < 42 }
-    ensures { result_err result ≡ node_fault_at image.now m k r }
+/// Judges an image as opening it does, and answers where its nodes and legs stand.
+#[tactic(auto, unfolding(image_format::specs::Judge::judge))]
+pub(crate) fn judged(image: &[u8]) -> Result<Layout<'_>, FileFault>
+    ensures verdict { result_err result ≡ judgement image.now }
+    ensures layout { IfOk result (λ l. l.image.now ≡ image.now) }
 {
-    let i = PER_BLOCK * k + r;
-    let low = least_first(image, i);
-    let high = most_first(m, i);
-    node_fault(
-        node_record(image, i),
-        (1 + k) as u16,
-        (4 + WIDTH * r) as u16,
-        low,
-        high,
-    )
-}
-
-fn node_records(image: &[u8], m: u32, k: usize, count: usize) -> Result<(), FileFault>
-    requires k_in_bounds { 512 * (1 + k) + 512 ≤ length image.now }
-    requires k_bound { k < 2000 }
-    requires count_bound { count ≤ 42 }
-    ensures { result_err result ≡ first_of (node_fault_at image.now m k) count }
-{
-    for r in 0..count {
-        node_fault_at(image, m, k, r)?;
-    }
-    Ok(())
-}
-
-fn node_block(image: &[u8], n: u16, m: u32, k: usize) -> Result<(), FileFault>
-    requires k_in_bounds { 512 * (1 + k) + 512 ≤ length image.now }
-    requires k_bound { 42 * k < n }
-    ensures { result_err result ≡ node_block_fault image.now n m k }
-{
-    let block = block_of(image, 1 + k);
-    let count = in_block(n as usize, k);
-    frame(block, NODE_KIND, (1 + k) as u16)?;
-    node_records(image, m, k, count)?;
-    unused(
-        block,
-        4 + WIDTH * count,
-        FilePart::NodeTable,
-        (1 + k) as u16,
-    )
-}
-
-fn node_blocks(image: &[u8], n: u16, m: u32) -> Result<(), FileFault>
-    requires n_in_bounds { 512 * (1 + blocks_for 42 n) ≤ length image.now }
-    requires n_bound { n ≤ 1000 }
-    ensures { result_err result ≡ first_of (node_block_fault image.now n m) (blocks_for 42 n) }
-{
-    for k in 0..blocks_for(n as usize) {
-        node_block(image, n, m, k)?;
-    }
-    Ok(())
-}
-
-/// Judges an image as opening it does.
-pub(crate) fn judged(image: &[u8]) -> Result<(), FileFault>
-    ensures { result_err result ≡ judgement image.now }
-{
-    let len = image.len();
-    if len == 0 || len % BLOCK_LEN != 0 {
-        return Err(WRONG_SIZE);
-    }
+    let size = FilePart::Size.at(0, 0);
+    unless(!image.is_empty() && image.len() % BLOCK_LEN == 0, size)?;
     let top = block_of(image, 0);
-    frame(top, HEADER_KIND, 0)?;
-    header(top)?;
-    let n = le16(top, 4);
-    let m = le32(top, 10);
-    if len != image_len(n, m) {
-        return Err(WRONG_SIZE);
-    }
-    node_blocks(image, n, m)
+    frame(top, BlockKind::Header as u8, 0)?;
+    judge_header(top)?;
+    let Header { nodes, legs, .. } = Header::stored_in(top);
+    unless(image.len() == image_len(nodes, legs), size)?;
+    let layout = Layout { image, nodes, legs };
+    layout.judge_nodes()?;
+    Ok(layout)
 }

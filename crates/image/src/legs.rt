@@ -1,116 +1,71 @@
-//! Leg records and leg blocks.
-ghost use Rattle.std.specs.Prelude.{◌≡◌, ℕ, ◌+◌, ◌*◌, ◌<◌, ◌≤◌, length};
+//! Whether leg blocks are sound.
+ghost use Rattle.std.specs.Prelude.{◌≡◌, ◌<◌, ◌&&◌, not, is_some, nat_lt};
 ghost use Rattle.std.specs.Result.{result_err};
-ghost use Rattle.network.specs.First.{first_of};
 ghost use Rattle.blocks.specs.Tables.{blocks_for};
-ghost use Rattle.image_format.specs.Layout.{legs_in};
-ghost use Rattle.image_format.specs.Judge.{Sound, leg_fault, leg_fault_in, leg_block_fault, leg_block_fault_at};
-ghost use Rattle.image_format.specs.Decode.{leg_at};
+ghost use Rattle.image_format.specs.Judge.{leg_fault_in, leg_block_fault_at};
 ghost use Rattle.image.specs.Marks.{Marked};
 
-use crate::nodes::{leg_count, node_count};
-use blocks::block::{block_of, frame, unused};
-use blocks::bytes::{le16, le32, signed32};
-use blocks::table::{PER_BLOCK, WIDTH, blocks_for, in_block, record_at, record_of};
-use image_format::{LEG_KIND, MAX_COST};
+use crate::judge::{judge_block, unless};
+use crate::layout::{Layout, leg_in};
+use blocks::block::{Block, block_of};
+use blocks::bytes::le16;
+use blocks::table::{WIDTH, blocks_for, in_block, record_of};
+use image_format::{BlockKind, MAX_COST};
 use network::fault::{FileFault, FilePart};
-use network::leg::Leg;
 use network::limits::MAX_TIME;
+use std::array;
 
 /// The most leg blocks that an image has.
 pub(crate) const MAX_LEG_BLOCKS: usize = 477;
 
-// Judges the leg record `t`, which stands at `byte` of a block, in an image of `n` nodes.
-fn leg_fault(t: &[u8], n: u16, block: u16, byte: u16) -> Result<(), FileFault>
-    requires t_len { length t.now ≡ 12 }
-    requires byte_bound { byte < 512 }
-    ensures { result_err result ≡ leg_fault t.now n block byte }
-{
-    let duration = le32(t, 4);
-    if le16(t, 0) >= n {
-        return Err(FilePart::LegTable.at(block, byte));
+impl Layout<'_> {
+    /// Judges record `r` of the leg block with this number.
+    #[tactic(auto, unfolding(image_format::specs::Judge::leg_fault))]
+    fn judge_leg(&self, block: &Block, number: u16, r: usize) -> Result<(), FileFault>
+        requires { r < 42 }
+        ensures { result_err result ≡ leg_fault_in block.now self.now.nodes number r }
+    {
+        let record = record_of(block, WIDTH, r);
+        let leg = leg_in(record);
+        let part = FilePart::LegTable;
+        let byte = (4 + WIDTH * r) as u16;
+        unless(leg.head < self.nodes, part.at(number, byte))?;
+        unless(le16(record, 2) == 0, part.at(number, byte + 2))?;
+        unless(
+            1 <= leg.duration && leg.duration <= MAX_TIME,
+            part.at(number, byte + 4),
+        )?;
+        unless(
+            leg.cost.unsigned_abs() <= MAX_COST,
+            part.at(number, byte + 8),
+        )
     }
-    if le16(t, 2) != 0 {
-        return Err(FilePart::LegTable.at(block, byte + 2));
-    }
-    if duration < 1 || duration > MAX_TIME {
-        return Err(FilePart::LegTable.at(block, byte + 4));
-    }
-    if signed32(t, 8).unsigned_abs() > MAX_COST {
-        return Err(FilePart::LegTable.at(block, byte + 8));
-    }
-    Ok(())
-}
 
-fn leg_fault_in(block: &[u8], n: u16, number: u16, r: usize) -> Result<(), FileFault>
-    requires block_len { length block.now ≡ 512 }
-    requires r_bound { r < 42 }
-    ensures { result_err result ≡ leg_fault_in block.now n number r }
-{
-    leg_fault(
-        record_of(block, WIDTH, r),
-        n,
-        number,
-        (4 + WIDTH * r) as u16,
-    )
-}
-
-fn leg_records(block: &[u8], n: u16, number: u16, count: usize) -> Result<(), FileFault>
-    requires block_len { length block.now ≡ 512 }
-    requires count_bound { count ≤ 42 }
-    ensures { result_err result ≡ first_of (leg_fault_in block.now n number) count }
-{
-    for r in 0..count {
-        leg_fault_in(block, n, number, r)?;
+    /// Judges leg block `k`, counted from 0.
+    #[tactic(auto, unfolding(image_format::specs::Judge::leg_block_fault))]
+    pub(crate) fn judge_leg_block(&self, k: usize) -> Result<(), FileFault>
+        requires { k < blocks_for 42 self.now.legs }
+        ensures { result_err result ≡ leg_block_fault_at self.now.image.now k }
+    {
+        let number = self.leg_base() + k;
+        let block = block_of(self.image, number);
+        let count = in_block(self.legs as usize, k);
+        judge_block(block, BlockKind::Legs, number as u16, count, |r| {
+            self.judge_leg(block, number as u16, r)
+        })
     }
-    Ok(())
-}
 
-fn leg_block(block: &[u8], n: u16, number: u16, count: usize) -> Result<(), FileFault>
-    requires block_len { length block.now ≡ 512 }
-    requires count_bound { count ≤ 42 }
-    ensures { result_err result ≡ leg_block_fault block.now n number count }
-{
-    frame(block, LEG_KIND, number)?;
-    leg_records(block, n, number, count)?;
-    unused(block, 4 + WIDTH * count, FilePart::LegTable, number)
-}
-
-/// Judges leg block `k` of an image, counted from 0.
-pub(crate) fn leg_block_at(image: &[u8], k: usize) -> Result<(), FileFault>
-    requires sound { Sound image.now }
-    requires k_bound { k < blocks_for 42 (legs_in image.now) }
-    ensures { result_err result ≡ leg_block_fault_at image.now k }
-{
-    let n = node_count(image);
-    let number = 1 + blocks_for(n as usize) + k;
-    let count = in_block(leg_count(image) as usize, k);
-    leg_block(block_of(image, number), n, number as u16, count)
-}
-
-/// Leg `j` of an image.
-pub(crate) fn leg_at(image: &[u8], j: usize) -> Leg
-    requires sound { Sound image.now }
-    requires j_bound { j < legs_in image.now }
-    ensures { result ≡ leg_at image.now j }
-{
-    let base = 1 + blocks_for(node_count(image) as usize);
-    let t = record_at(image, WIDTH, PER_BLOCK, base, j);
-    Leg {
-        head: le16(t, 0),
-        duration: le32(t, 4),
-        cost: signed32(t, 8),
+    /// Whether there is a leg block `k`, counted from 0, and it is sound.
+    fn is_sound(&self, k: usize) -> bool
+        ensures { result ≡ (nat_lt k (blocks_for 42 self.now.legs) && not (is_some (leg_block_fault_at self.now.image.now k))) }
+    {
+        k < blocks_for(self.legs as usize) && self.judge_leg_block(k).is_ok()
     }
-}
 
-/// Marks the leg blocks that are sound.
-pub(crate) fn sound_blocks(image: &[u8]) -> [bool; MAX_LEG_BLOCKS]
-    requires { Sound image.now }
-    ensures { Marked result image.now }
-{
-    let mut marks = [false; MAX_LEG_BLOCKS];
-    for k in 0..blocks_for(leg_count(image) as usize) {
-        marks[k] = leg_block_at(image, k).is_ok();
+    /// Marks the leg blocks that are sound.
+    pub(crate) fn sound_leg_blocks(&self) -> [bool; MAX_LEG_BLOCKS]
+        ensures { Marked result self.now.image.now }
+    {
+        array::from_fn(|k| self.is_sound(k))
     }
-    marks
 }

@@ -4,6 +4,6 @@
 pub mod answers;
 mod built_in;
 mod judge;
+mod layout;
 mod legs;
-mod nodes;
 pub mod source;

@@ -1,47 +1,40 @@
 //! Edits of an image.
 use anyhow::anyhow;
-use blocks::bytes::put16;
-use blocks::check::check_of;
+use blocks::block::BLOCK_LEN;
+use blocks::check::Check;
+
+fn set(image: &mut [u8], at: usize, value: u8) -> anyhow::Result<()> {
+    let Some(byte) = image.get_mut(at) else {
+        return Err(anyhow!("no such byte"));
+    };
+    *byte = value;
+    Ok(())
+}
 
 /// Puts the check of block `b` right.
-fn fit(mut image: Vec<u8>, b: usize) -> anyhow::Result<Vec<u8>> {
-    let bytes = image.as_mut_slice();
-    if b >= bytes.len() / 512 {
+fn fit(image: &mut [u8], b: usize) -> anyhow::Result<()> {
+    let (blocks, _) = image.as_chunks_mut::<BLOCK_LEN>();
+    let Some(block) = blocks.get_mut(b) else {
         return Err(anyhow!("no such block"));
-    }
-    let block = &mut bytes[512 * b..512 * b + 512];
-    let check = check_of(block);
-    put16(block, 508, check.plain);
-    put16(block, 510, check.weighted);
-    Ok(image)
+    };
+    Check::of(block).store_in(block);
+    Ok(())
 }
 
-fn set(mut image: Vec<u8>, at: usize, value: u8) -> anyhow::Result<Vec<u8>> {
-    if at >= image.len() {
-        return Err(anyhow!("no such byte"));
-    }
-    image[at] = value;
-    Ok(image)
-}
-
-fn pad(mut image: Vec<u8>, n: usize) -> anyhow::Result<Vec<u8>> {
-    for _ in 0..n {
-        image.push(0)?;
-    }
-    Ok(image)
-}
-
-/// The image after one edit.
-pub fn edited(mut image: Vec<u8>, word: &str) -> anyhow::Result<Vec<u8>> {
+/// Makes one edit.
+pub fn edit(image: &mut Vec<u8>, word: &str) -> anyhow::Result<()> {
     if let Some((at, value)) = word.split_once('=') {
-        return set(image, at.parse::<usize>()?, value.parse::<u8>()?);
+        return set(image.as_mut_slice(), at.parse()?, value.parse()?);
     }
     match word.split_once(':') {
-        Some(("fit", b)) => fit(image, b.parse::<usize>()?),
-        Some(("pad", n)) => pad(image, n.parse::<usize>()?),
+        Some(("fit", b)) => fit(image.as_mut_slice(), b.parse()?),
+        Some(("pad", n)) => {
+            let len = image.len().saturating_add(n.parse()?);
+            Ok(image.resize(len, 0)?)
+        }
         Some(("cut", n)) => {
-            image.truncate(n.parse::<usize>()?);
-            Ok(image)
+            image.truncate(n.parse()?);
+            Ok(())
         }
         _ => Err(anyhow!("no such edit")),
     }

@@ -10,19 +10,18 @@ mod bases;
 mod edits;
 
 use bases::base;
-use edits::edited;
+use edits::edit;
 use image::source::ImageSource;
-use network::fault::NetworkFault;
+use network::fault::{FileFault, NetworkFault};
 use network::network::Network;
 
 fn tell_rows<N: Network>(rt: &HostRuntime, net: &N) -> anyhow::Result<()> {
     print!(rt; "ok")?;
-    for i in 0..net.node_count() {
-        if let Err(NetworkFault::UnreadableRow { node, below }) = net.row_len(i) {
-            let number = below.part.number();
-            let block = below.block;
-            let byte = below.byte;
-            print!(rt; " 9:{node}:{number}:{block}:{byte}")?;
+    let faults = (0..net.node_count()).filter_map(|i| net.row_len(i).err());
+    for fault in faults {
+        if let NetworkFault::UnreadableRow { node, below } = fault {
+            let FileFault { part, block, byte } = below;
+            print!(rt; " 9:{node}:{}:{block}:{byte}", part.number())?;
         }
     }
     println!(rt; "")?;
@@ -34,10 +33,7 @@ fn tell(rt: &HostRuntime, image: &[u8]) -> anyhow::Result<()> {
     match source.open(image) {
         Ok(()) => tell_rows(rt, &source),
         Err(fault) => {
-            let number = fault.part.number();
-            let block = fault.block;
-            let byte = fault.byte;
-            println!(rt; "refused {number} {block} {byte}")?;
+            println!(rt; "refused {fault}")?;
             Ok(())
         }
     }
@@ -53,7 +49,7 @@ fn run_case(rt: &HostRuntime, line: &str) -> anyhow::Result<()> {
     }
     let mut image = base(rt.alloc(), name)?;
     for word in words {
-        image = edited(image, word)?;
+        edit(&mut image, word)?;
     }
     tell(rt, image.as_slice())
 }

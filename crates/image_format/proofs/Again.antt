@@ -18,7 +18,7 @@ use Rattle.blocks.proofs.Fields.{back16, back32}
 use Rattle.blocks.proofs.Frames.{block_is}
 use Rattle.blocks.proofs.Parts.{bytes_part, block_length, block_bytes, image_split}
 use Rattle.blocks.proofs.Chunked.{chunks12, kept, table_same}
-use Rattle.image_format.specs.Layout.{nodes_in, depot_in_image, sink_in_image, legs_in, node_record, first_leg_of, start, leg_base, leg_record}
+use Rattle.image_format.specs.Layout.{header_in, nodes_in, depot_in_image, sink_in_image, legs_in, node_record, first_leg_of, start, leg_base, leg_record}
 use Rattle.image_format.specs.Judge.{leg_block_fault_at}
 use Rattle.image_format.specs.Decode.{span_fault, leg_in_record, leg_at, row_by, image_net}
 use Rattle.image_format.specs.Encode.{header_bytes, node_bytes, leg_bytes, leg_count, first_of_node, node_bytes_at, leg_bytes_at, header_block, node_table, leg_table, encoded}
@@ -58,7 +58,7 @@ leg_record_is t b l z =
     ∙ ap (λ y. bytes16 (u16_at t 0) ++ (bytes16 0 ++ (y ++ take 4 (drop 8 t)))) (back32 t 4 b (omega arith))
     ∙ ap (λ y. bytes16 (u16_at t 0) ++ (bytes16 0 ++ (bytes32 (u32_at t 4) ++ y))) (back32 t 8 b (omega arith) ∙ ap bytes32 (sym (bits_are t b l)))
 
-header_is : (t : List ℕ) → Bytes t → length t ≡ 512 → take 10 (drop 4 t) ≡ header_bytes (u16_at t 4) (u16_at t 6) (u16_at t 8) (u32_at t 10)
+header_is : (t : List ℕ) → Bytes t → length t ≡ 512 → take 10 (drop 4 t) ≡ header_bytes (header_in t)
 header_is t b l =
     take-add 2 8 (drop 4 t)
     ∙ ap (λ y. take 2 (drop 4 t) ++ y)
@@ -104,7 +104,7 @@ module _ (s : List ℕ) (by : Bytes s) (f : Facts s) (r : Readable (image_net s)
       let l : length t ≡ 512 = block_length s 0 (omega (arith, f.long)) in
       let b : Bytes t = block_bytes s 0 by (omega (arith, f.long)) in
       block_is t 1 0 10 Header l b f.header_frame (omega arith) f.header_unused
-      ∙ ap (λ z. finished (start_bytes 1 0 ++ z)) (header_is t b l ∙ ap (λ m. header_bytes (nodes_in s) (depot_in_image s) (sink_in_image s) m) (sym count_is))
+      ∙ ap (λ z. finished (start_bytes 1 0 ++ z)) (header_is t b l ∙ ap (λ m. header_bytes (record { nodes = nodes_in s; depot = depot_in_image s; sink = sink_in_image s; legs = m })) (sym count_is))
 
   -- a record of 12 bytes in a block that is there
   module _ (b i : ℕ) (room : 512 * (b + i / 42) + 512 ≤ length s) where

@@ -11,7 +11,7 @@ use Rattle.network.specs.Meaning.{Net, Row, legs_row, unreadable_row, legs_of, f
 use Rattle.network.specs.Lawful.{Lawful, LawfulLeg}
 use Rattle.network.specs.Refusals.{fault}
 use Rattle.network.specs.Rows.{least_first, most_first, legs_from}
-use Rattle.network.specs.declared.fault.FilePart.TheVariants.{Size, Header, NodeTable, LegTable}
+use Rattle.network.specs.declared.fault.FilePart.TheVariants.{Size, Header as HeaderPart, NodeTable, LegTable}
 use Rattle.network.specs.declared.leg.Leg.{Leg}
 use Rattle.network.proofs.Firsts.{both, first_none}
 use Rattle.network.proofs.Piles.{pile_grows, pile_item, pile_each}
@@ -24,32 +24,33 @@ use Rattle.blocks.proofs.Chunked.{chunks12, kept, table_length}
 use Rattle.image_format.specs.Layout.{nodes_in, legs_in, node_record, first_leg_of, start, leg_base, leg_record, most_cost}
 use Rattle.image_format.specs.Judge.{judge, header_fault, node_fault, node_fault_at, node_block_fault, block_count, leg_fault, leg_fault_in, leg_block_fault, leg_block_fault_at}
 use Rattle.image_format.specs.Decode.{blocks_over, span_fault, window_in, leg_in_record, leg_at, row_by, row_span, image_net}
-use Rattle.image_format.specs.Encode.{header_bytes, node_bytes, leg_bytes, leg_count, first_of_node, node_bytes_at, leg_bytes_at, header_block, node_table, leg_table, encoded, encoded_size}
+use Rattle.image_format.specs.declared.header.Header.{Header}
+use Rattle.image_format.specs.Encode.{header_bytes, header_of, node_bytes, leg_bytes, leg_count, first_of_node, node_bytes_at, leg_bytes_at, header_block, node_table, leg_table, encoded, encoded_size}
 use Rattle.image_format.specs.RoundTrip.{Holdable, WrittenIsRead}
 
 -- the header
-record HeaderIs (h : List ℕ) (n depot sink m : ℕ) : Type 0 where
-  pub n_is : u16_at h 4 ≡ n
-  pub depot_is : u16_at h 6 ≡ depot
-  pub sink_is : u16_at h 8 ≡ sink
-  pub m_is : u32_at h 10 ≡ m
+record HeaderIs (h : List ℕ) (x : Header) : Type 0 where
+  pub n_is : u16_at h 4 ≡ x.nodes
+  pub depot_is : u16_at h 6 ≡ x.depot
+  pub sink_is : u16_at h 8 ≡ x.sink
+  pub m_is : u32_at h 10 ≡ x.legs
   pub frame : frame_fault h 1 0 ≡ None
-  pub unused : unused_fault h 14 Header 0 ≡ None
+  pub unused : unused_fault h 14 HeaderPart 0 ≡ None
   pub long : length h ≡ 512
 
-header_read : (n depot sink m : ℕ) → HeaderIs (finished (start_bytes 1 0 ++ header_bytes n depot sink m)) n depot sink m
+header_read : (x : Header) → HeaderIs (finished (start_bytes 1 0 ++ header_bytes x)) x
 unfolding finished body
-header_read n depot sink m = record {
+header_read x = record {
   n_is = omega arith;
   depot_is = omega arith;
   sink_is = omega arith;
-  m_is = value32 m;
-  frame = frame_passes 1 0 (header_bytes n depot sink m) (omega arith);
-  unused = unused_passes (start_bytes 1 0 ++ header_bytes n depot sink m) 14 Header 0 refl;
-  long = length-finished (start_bytes 1 0 ++ header_bytes n depot sink m) (omega arith);
+  m_is = value32 x.legs;
+  frame = frame_passes 1 0 (header_bytes x) (omega arith);
+  unused = unused_passes (start_bytes 1 0 ++ header_bytes x) 14 HeaderPart 0 refl;
+  long = length-finished (start_bytes 1 0 ++ header_bytes x) (omega arith);
 }
 
-header_ok : (h : List ℕ) → 1 ≤ u16_at h 4 → u16_at h 4 ≤ most_nodes → u16_at h 6 < u16_at h 4 → u16_at h 8 < u16_at h 4 → u32_at h 10 ≤ most_legs → unused_fault h 14 Header 0 ≡ None → header_fault h ≡ None
+header_ok : (h : List ℕ) → 1 ≤ u16_at h 4 → u16_at h 4 ≤ most_nodes → u16_at h 6 < u16_at h 4 → u16_at h 8 < u16_at h 4 → u32_at h 10 ≤ most_legs → unused_fault h 14 HeaderPart 0 ≡ None → header_fault h ≡ None
 header_ok h a b c d e u = grind (arith, nat_tests)
 
 judge_ok : (s : List ℕ) → frame_fault (block_of s 0) 1 0 ≡ None → header_fault (block_of s 0) ≡ None → length s ≡ 512 * block_count (nodes_in s) (legs_in s) → first_of (node_block_fault s (nodes_in s) (legs_in s)) (blocks_for 42 (nodes_in s)) ≡ None → judge s ≡ None
@@ -128,9 +129,9 @@ module _ (N : Net) where
   pub leg_each : (j : ℕ) → length (leg_bytes_at N j) ≡ 12
   leg_each j = refl
 
-  header : HeaderIs (header_block N) N.n N.depot N.sink (leg_count N)
+  header : HeaderIs (header_block N) (header_of N)
   unfolding header_block
-  header = header_read N.n N.depot N.sink (leg_count N)
+  header = header_read (header_of N)
 
   pub header_long : length (header_block N) ≡ 512
   header_long = header.long

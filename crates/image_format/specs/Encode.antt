@@ -5,10 +5,11 @@ use Rattle.network.specs.declared.leg.Leg.{Leg}
 use Rattle.blocks.specs.Numbers.{bytes16, bytes32, bytes_z}
 use Rattle.blocks.specs.Blocks.{finished, start_bytes}
 use Rattle.blocks.specs.Tables.{blocks_for, table_bytes}
+use Rattle.image_format.specs.declared.header.Header.{Header}
 use Rattle.image_format.specs.Judge.{block_count}
 
-abbrev pub header_bytes : ℕ → ℕ → ℕ → ℕ → List ℕ
-header_bytes n depot sink m = bytes16 n ++ (bytes16 depot ++ (bytes16 sink ++ bytes32 m))
+abbrev pub header_bytes : Header → List ℕ
+header_bytes h = bytes16 h.nodes ++ (bytes16 h.depot ++ (bytes16 h.sink ++ bytes32 h.legs))
 
 abbrev pub node_bytes : ℕ → ℕ → ℕ → List ℕ
 node_bytes opens closes first = bytes32 opens ++ (bytes32 closes ++ bytes32 first)
@@ -30,9 +31,13 @@ node_bytes_at N i = node_bytes (N.window i).opens (N.window i).closes (first_of_
 abbrev pub leg_bytes_at : Net → ℕ → List ℕ
 leg_bytes_at N j = leg_bytes (slice_index_or (all_legs N) j no_leg)
 
+-- the header of a network
+abbrev pub header_of : Net → Header
+header_of N = record { nodes = N.n; depot = N.depot; sink = N.sink; legs = leg_count N }
+
 -- the header block, the node blocks and the leg blocks
 unfoldable pub header_block : Net → List ℕ
-header_block N = finished (start_bytes 1 0 ++ header_bytes N.n N.depot N.sink (leg_count N))
+header_block N = finished (start_bytes 1 0 ++ header_bytes (header_of N))
 
 abbrev pub node_table : Net → List ℕ
 node_table N = table_bytes 42 2 1 (node_bytes_at N) N.n

@@ -10,15 +10,17 @@ use Rattle.network.specs.declared.fault.FilePart.TheVariants.{Size, Header, Node
 use Rattle.blocks.specs.Numbers.{u16_at, u32_at, i32_at}
 use Rattle.blocks.specs.Blocks.{block_of, frame_fault, unused_fault}
 use Rattle.blocks.specs.Tables.{blocks_for, in_block, record_of}
-use Rattle.image_format.specs.Layout.{nodes_in, legs_in, node_record, first_leg_of, leg_base, most_cost}
+use Rattle.image_format.specs.declared.BlockKind.{BlockKind}
+use Rattle.image_format.specs.declared.BlockKind.TheVariants.{Nodes, Legs}
+use Rattle.image_format.specs.Layout.{kind_number, kind_part, header_in, nodes_in, legs_in, node_record, first_leg_of, leg_base, most_cost}
 
 -- the content of the header block h
 abbrev pub header_fault : List ℕ → Option FileFault
 header_fault h =
-    option_or (unless (nat_le 1 (u16_at h 4) && nat_le (u16_at h 4) most_nodes) (fault Header 0 4))
-    (option_or (unless (nat_lt (u16_at h 6) (u16_at h 4)) (fault Header 0 6))
-    (option_or (unless (nat_lt (u16_at h 8) (u16_at h 4)) (fault Header 0 8))
-    (option_or (unless (nat_le (u32_at h 10) most_legs) (fault Header 0 10))
+    option_or (unless (nat_le 1 (header_in h).nodes && nat_le (header_in h).nodes most_nodes) (fault Header 0 4))
+    (option_or (unless (nat_lt (header_in h).depot (header_in h).nodes) (fault Header 0 6))
+    (option_or (unless (nat_lt (header_in h).sink (header_in h).nodes) (fault Header 0 8))
+    (option_or (unless (nat_le (header_in h).legs most_legs) (fault Header 0 10))
     (unused_fault h 14 Header 0))))
 
 -- the node record t, which stands at `byte` of block b, and whose first leg lies from low to high
@@ -33,11 +35,15 @@ abbrev pub node_fault_at : List ℕ → ℕ → ℕ → ℕ → Option FileFault
 node_fault_at image m k r =
     node_fault (node_record image (42 * k + r)) (1 + k) (4 + 12 * r) (least_first (first_leg_of image) (42 * k + r)) (most_first m (42 * k + r))
 
+-- a block of a table: its kind, its number b, and `count` records, of which record r has the fault f r
+abbrev pub table_block_fault : List ℕ → BlockKind → ℕ → ℕ → (ℕ → Option FileFault) → Option FileFault
+table_block_fault block kind b count f =
+    option_or (frame_fault block (kind_number kind) b)
+    (option_or (first_of f count)
+    (unused_fault block (4 + 12 * count) (kind_part kind) b))
+
 unfoldable pub node_block_fault : List ℕ → ℕ → ℕ → ℕ → Option FileFault
-node_block_fault image n m k =
-    option_or (frame_fault (block_of image (1 + k)) 2 (1 + k))
-    (option_or (first_of (node_fault_at image m k) (in_block 42 n k))
-    (unused_fault (block_of image (1 + k)) (4 + 12 * in_block 42 n k) NodeTable (1 + k)))
+node_block_fault image n m k = table_block_fault (block_of image (1 + k)) Nodes (1 + k) (in_block 42 n k) (node_fault_at image m k)
 
 -- the number of blocks that an image of n nodes and m legs has
 abbrev pub block_count : ℕ → ℕ → ℕ
@@ -69,10 +75,7 @@ leg_fault_in block n b r = leg_fault (record_of 12 block r) n b (4 + 12 * r)
 
 -- a leg block with the number b that holds `count` legs
 unfoldable pub leg_block_fault : List ℕ → ℕ → ℕ → ℕ → Option FileFault
-leg_block_fault block n b count =
-    option_or (frame_fault block 3 b)
-    (option_or (first_of (leg_fault_in block n b) count)
-    (unused_fault block (4 + 12 * count) LegTable b))
+leg_block_fault block n b count = table_block_fault block Legs b count (leg_fault_in block n b)
 
 -- leg block k of an image, counted from 0
 abbrev pub leg_block_fault_at : List ℕ → ℕ → Option FileFault

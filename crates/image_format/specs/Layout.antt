@@ -4,19 +4,38 @@ use Rattle.network.specs.Rows.{start_of}
 use Rattle.blocks.specs.Numbers.{u16_at, u32_at}
 use Rattle.blocks.specs.Blocks.{block_of}
 use Rattle.blocks.specs.Tables.{blocks_for, record_at}
+use Rattle.network.specs.declared.fault.FilePart.{FilePart}
+use Rattle.network.specs.declared.fault.FilePart.TheVariants.{Header as HeaderPart, NodeTable, LegTable}
+use Rattle.image_format.specs.declared.BlockKind.{BlockKind}
+use Rattle.image_format.specs.declared.BlockKind.TheVariants.{Header as HeaderKind, Nodes, Legs}
+use Rattle.image_format.specs.declared.header.Header.{Header}
 
--- n, depot, sink and m
+-- the number that stands for a kind in a block, and the part of the file that blocks of the kind hold
+abbrev pub kind_number : BlockKind → ℕ
+kind_number HeaderKind = 1
+kind_number Nodes = 2
+kind_number Legs = 3
+
+abbrev pub kind_part : BlockKind → FilePart
+kind_part HeaderKind = HeaderPart
+kind_part Nodes = NodeTable
+kind_part Legs = LegTable
+
+-- what the header block h counts and names
+abbrev pub header_in : List ℕ → Header
+header_in h = record { nodes = u16_at h 4; depot = u16_at h 6; sink = u16_at h 8; legs = u32_at h 10 }
+
 abbrev pub nodes_in : List ℕ → ℕ
-nodes_in image = u16_at (block_of image 0) 4
+nodes_in image = (header_in (block_of image 0)).nodes
 
 abbrev pub depot_in_image : List ℕ → ℕ
-depot_in_image image = u16_at (block_of image 0) 6
+depot_in_image image = (header_in (block_of image 0)).depot
 
 abbrev pub sink_in_image : List ℕ → ℕ
-sink_in_image image = u16_at (block_of image 0) 8
+sink_in_image image = (header_in (block_of image 0)).sink
 
 abbrev pub legs_in : List ℕ → ℕ
-legs_in image = u32_at (block_of image 0) 10
+legs_in image = (header_in (block_of image 0)).legs
 
 -- the record of node i: records of 12 bytes, 42 to a block, from block 1 on
 abbrev pub node_record : List ℕ → ℕ → List ℕ

@@ -2,18 +2,36 @@
 #![tactic(auto)]
 
 ghost use Rattle.std.specs.Prelude.{◌≡◌, ◌*◌};
+ghost use Rattle.image_format.specs.Layout.{kind_part};
 ghost use Rattle.image_format.specs.Judge.{block_count};
 ghost use Rattle.image_format.specs.RoundTrip.{WrittenIsRead, ReadIsWritten};
 
 use blocks::block::BLOCK_LEN;
 use blocks::table::blocks_for;
+use network::fault::FilePart;
 
-/// The kinds of blocks.
-pub const HEADER_KIND: u8 = 1;
+pub mod header;
 
-pub const NODE_KIND: u8 = 2;
+/// The kinds of blocks, and the numbers that stand for them in a block.
+#[derive(Clone, Copy, PartialEq, Eq, Debug)]
+pub enum BlockKind {
+    Header = 1,
+    Nodes = 2,
+    Legs = 3,
+}
 
-pub const LEG_KIND: u8 = 3;
+impl BlockKind {
+    /// The part of the file that blocks of the kind hold.
+    pub fn part(self) -> FilePart
+        ensures { result ≡ kind_part self }
+    {
+        match self {
+            BlockKind::Header => FilePart::Header,
+            BlockKind::Nodes => FilePart::NodeTable,
+            BlockKind::Legs => FilePart::LegTable,
+        }
+    }
+}
 
 /// The largest size of a cost in an image.
 pub const MAX_COST: u32 = 10_000_000;
@@ -26,15 +44,12 @@ pub fn image_len(n: u16, m: u32) -> usize
 }
 
 /// The image of a lawful network that an image can hold opens, and means the same network.
-pub fn written_is_read() -> u8
+pub fn written_is_read()
     ensures { WrittenIsRead }
-{
-    0
-}
+{}
 
 /// An image that opens, and whose rows can all be read, is the image of its network.
-pub fn read_is_written() -> u8
+#[tactic(auto, using(crate::proofs::Again::read_is_written_lem))]
+pub fn read_is_written()
     ensures { ReadIsWritten }
-{
-    0
-}
+{}

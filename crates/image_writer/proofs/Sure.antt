@@ -1,8 +1,10 @@
 -- What a write tells in the words of networks.
-use Rattle.std.proofs.Common.{◌≡◌, ℕ, zero, suc, ◌<◌, ◌≤◌, true, leb, List, [], ◌∷◌, length, get_or, take, drop, nat_abs, is_ok, IfOk, None, Ok, Err, Option, Result, sym, refl, ap, ◌∙◌, subst, arith}
+use Rattle.std.proofs.Common.{◌≡◌, ℕ, ◌<◌, ◌≤◌, true, leb, List, length, get_or, take, drop, nat_abs, is_ok, IfOk, Some, None, Ok, Err, Option, Result, sym, refl, ap, ◌∙◌, subst, arith}
 use Rattle.std.specs.Option.{option_map, option_or}
 use Rattle.std.proofs.lemmas.List.{take_at}
-use Rattle.std.proofs.lemmas.Bool.{and_parts, and_from, leb-true, le-leb, true≢false}
+use Rattle.std.proofs.lemmas.List.Elements.{All-from_get_or}
+use Rattle.std.proofs.lemmas.List.Sums.{AllPass-from_list_all, list_all-from_AllPass}
+use Rattle.std.proofs.lemmas.Bool.{leb-true, le-leb, lt-leb, true≢false}
 use Rattle.network.specs.First.{unless, first_of}
 use Rattle.network.specs.Meaning.{Net, Same, fault_in, legs_at, no_leg}
 use Rattle.network.specs.Lawful.{Lawful}
@@ -12,18 +14,19 @@ use Rattle.network.proofs.Firsts.{front, back, both, passes, first_each, first_n
 use Rattle.image_format.specs.Layout.{most_cost}
 use Rattle.image_format.specs.Judge.{judge}
 use Rattle.image_format.specs.Decode.{image_net}
-use Rattle.image_format.specs.Encode.{encoded, encoded_size}
+use Rattle.image_format.specs.Encode.{encoded, encoded_size, leg_count}
 use Rattle.image_format.specs.RoundTrip.{Readable, Holdable, ReadBack}
 use Rattle.image_format.proofs.Back.{written_is_read_lem, encoded_long}
-use Rattle.image_writer.specs.Write.{cost_too_large, no_room, holds_leg, holds_legs, unread_at, dear_at, write_fault, answer_by, bytes_by, write_answer, written, told_write}
+use Rattle.image_writer.specs.Write.{cost_too_large, no_room, holds_leg, holds_legs, unread_at, dear_at, write_fault, answer_by, bytes_by, count_answer, write_answer, written, told_write}
 use Rattle.image_writer.specs.Promise.{CopyOf, WrittenWhen}
 use Rattle.image_writer.specs.declared.fault.WriteFault.{WriteFault}
-use Rattle.image_writer.proofs.Steps.{unmapped, answer_tells}
+use Rattle.image_writer.specs.declared.fault.WriteFault.TheVariants.{NoRoom}
+use Rattle.blocks.specs.Over.{over}
+use Rattle.blocks.proofs.Overs.{over_front}
+use Rattle.image_writer.proofs.Steps.{unmapped, answer_tells, refusal_is}
 
 holds_each : (ls : List Leg) → holds_legs ls ≡ true → (k : ℕ) → k < length ls → nat_abs (get_or ls k no_leg).cost ≤ most_cost
-holds_each [] e k h = absurd (omega arith)
-holds_each (l ∷ ls) e zero h = leb-true _ _ (and_parts (holds_leg l) (holds_legs ls) e).0
-holds_each (l ∷ ls) e (suc k) h = holds_each ls (and_parts (holds_leg l) (holds_legs ls) e).1 k (omega arith)
+holds_each ls e k h = leb-true _ _ (AllPass-from_list_all holds_leg ls e k no_leg h)
 
 pub readable : (N : Net) (room : ℕ) → write_fault N room ≡ None → Readable N
 unfolding write_fault
@@ -55,8 +58,7 @@ copy_made N d out (Err e) w a o = tt
 
 -- and when it is not refused
 pub holds_all : (ls : List Leg) → ((k : ℕ) → k < length ls → nat_abs (get_or ls k no_leg).cost ≤ most_cost) → holds_legs ls ≡ true
-holds_all [] h = refl
-holds_all (l ∷ ls) h = and_from (holds_leg l) (holds_legs ls) (le-leb _ _ (h 0 (omega arith))) (holds_all ls (λ k q. h (suc k) (omega arith)))
+holds_all ls h = list_all-from_AllPass holds_leg ls (All-from_get_or (λ l. holds_leg l ≡ true) ls no_leg (λ k q. le-leb _ _ (h k q)))
 
 pub accepts : (N : Net) (room : ℕ) → Readable N → Holdable N → encoded_size N ≤ room → write_fault N room ≡ None
 unfolding write_fault
@@ -85,3 +87,47 @@ when N d r a = record {
   only = λ t. let e = granted N d r a t in (readable N (length d) e, holdable N (length d) e, room_enough N (length d) e);
   always = λ p q h. ok_of N d r a (accepts N (length d) p q h);
 }
+
+-- ---- the outcomes of a write
+pub record Outcome (N : Net) (d : List ℕ) (r : Result ℕ WriteFault) (out : List ℕ) : Type 0 where
+  pub answer : told_write r ≡ write_answer N d
+  pub bytes : out ≡ written N d
+  pub copy : IfOk r (λ k. CopyOf N (take k out))
+  pub when : WrittenWhen N (length d) (is_ok r)
+
+-- the fault once a row is not read, once all are, and once every cost holds too
+module _ (N : Net) (room : ℕ) where
+  pub unread_first : (x : NetworkRefusal) → first_of (unread_at N) N.n ≡ Some x → write_fault N room ≡ Some x
+  unfolding write_fault
+  unread_first x u = ap (λ o. option_or o (option_or (first_of (dear_at N) N.n) (unless (leb (encoded_size N) room) no_room))) u
+
+  pub costs_next : first_of (unread_at N) N.n ≡ None → write_fault N room ≡ option_or (first_of (dear_at N) N.n) (unless (leb (encoded_size N) room) no_room)
+  unfolding write_fault
+  costs_next u = ap (λ o. option_or o (option_or (first_of (dear_at N) N.n) (unless (leb (encoded_size N) room) no_room))) u
+
+  pub room_next : first_of (unread_at N) N.n ≡ None → first_of (dear_at N) N.n ≡ None → write_fault N room ≡ unless (leb (encoded_size N) room) no_room
+  room_next u e = costs_next u ∙ ap (λ o. option_or o (unless (leb (encoded_size N) room) no_room)) e
+
+module _ (N : Net) (d : List ℕ) (w : Lawful N) where
+  promised : (r : Result ℕ WriteFault) (out : List ℕ) → told_write r ≡ write_answer N d → out ≡ written N d → Outcome N d r out
+  promised r out a o = record { answer = a; bytes = o; copy = copy_made N d out r w a o; when = when N d r a }
+
+  refused : (r : Result ℕ WriteFault) (x : NetworkRefusal) → told_write r ≡ Err x → write_fault N (length d) ≡ Some x → Outcome N d r d
+  refused r x t e = promised r d (t ∙ sym (ap (λ o. answer_by o (encoded_size N)) e)) (sym (ap (λ o. bytes_by o (encoded N) d) e))
+
+  pub unread : (r : Result ℕ WriteFault) (x : NetworkRefusal) → told_write r ≡ Err x → Err x ≡ count_answer N → Outcome N d r d
+  unread r x t e = refused r x t (unread_first N (length d) x (refusal_is (first_of (unread_at N) N.n) x (leg_count N) e))
+
+  module _ (u : first_of (unread_at N) N.n ≡ None) where
+    pub dear : (r : Result ℕ WriteFault) (x : NetworkRefusal) → told_write r ≡ Err x → Some x ≡ first_of (dear_at N) N.n → Outcome N d r d
+    dear r x t e = refused r x t (costs_next N (length d) u ∙ ap (λ o. option_or o (unless (leb (encoded_size N) (length d)) no_room)) (sym e))
+
+    module _ (e : None ≡ first_of (dear_at N) N.n) where
+      pub short : length d < encoded_size N → Outcome N d (Err NoRoom) d
+      short h = refused (Err NoRoom) no_room refl (room_next N (length d) u (sym e) ∙ ap (λ b. unless b no_room) (lt-leb (encoded_size N) (length d) h))
+
+      pub done : (out : List ℕ) (size : ℕ) → encoded_size N ≤ length d → size ≡ encoded_size N → out ≡ over d 0 (encoded N) → Outcome N d (Ok size) out
+      done out size h s o =
+          let f : write_fault N (length d) ≡ None = room_next N (length d) u (sym e) ∙ ap (λ b. unless b no_room) (le-leb (encoded_size N) (length d) h) in
+          promised (Ok size) out (ap Ok s ∙ sym (ap (λ z. answer_by z (encoded_size N)) f))
+          (o ∙ over_front d (encoded N) ∙ sym (ap (λ z. bytes_by z (encoded N) d) f))

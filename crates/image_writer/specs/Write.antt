@@ -1,13 +1,14 @@
 -- What writing a network as an image comes to: 9 at the lowest node, then 20 at the lowest node, then 19, or the image.
-use Rattle.std.specs.Prelude.{◌≡◌, ℕ, ◌+◌, ◌<◌, ◌≤◌, Bool, true, ◌&&◌, List, [], ◌∷◌, ◌++◌, length, drop, Some, None, Ok, Err, Option, Result, nat_le, unsigned_abs}
+use Rattle.std.specs.Prelude.{ℕ, ◌+◌, Bool, List, ◌++◌, length, drop, Some, None, Ok, Err, Option, Result, nat_le, unsigned_abs}
+use Rattle.std.specs.List.{list_all}
 use Rattle.std.specs.Option.{option_map, option_or}
 use Rattle.network.specs.First.{unless, first_of}
 use Rattle.network.specs.Meaning.{Net, fault_in, legs_at}
 use Rattle.network.specs.Refusals.{NetworkRefusal, no_file, network_refusal, unreadable}
 use Rattle.network.specs.declared.leg.Leg.{Leg}
-use Rattle.blocks.specs.Tables.{blocks_for, table_block}
 use Rattle.image_format.specs.Layout.{most_cost}
 use Rattle.image_format.specs.Encode.{encoded, encoded_size, leg_count, first_of_node, node_bytes_at, leg_bytes_at}
+use Rattle.image_writer.specs.Order.{records_from}
 use Rattle.image_writer.specs.declared.fault.WriteFault.{WriteFault}
 use Rattle.image_writer.specs.declared.fault.WriteFault.TheVariants.{Network, CostTooLarge, NoRoom}
 
@@ -36,12 +37,15 @@ abbrev pub holds_leg : Leg → Bool
 holds_leg l = nat_le (unsigned_abs l.cost) most_cost
 
 abbrev pub holds_legs : List Leg → Bool
-holds_legs [] = true
-holds_legs (l ∷ ls) = holds_leg l && holds_legs ls
+holds_legs = list_all holds_leg
 
 -- node i has a leg whose cost an image cannot hold
 abbrev pub dear_at : Net → ℕ → Option NetworkRefusal
 dear_at N i = unless (holds_legs (legs_at N i)) (cost_too_large i)
+
+-- the same, as the writer's own fault
+abbrev pub dear_fault : Net → ℕ → Option WriteFault
+dear_fault N i = unless (holds_legs (legs_at N i)) (CostTooLarge i)
 
 -- the refusal to write into `room` bytes
 unfoldable pub write_fault : Net → ℕ → Option NetworkRefusal
@@ -69,15 +73,9 @@ written N d = bytes_by (write_fault N (length d)) (encoded N) d
 abbrev pub count_answer : Net → Result ℕ NetworkRefusal
 count_answer N = answer_by (first_of (unread_at N) N.n) (leg_count N)
 
--- node block k and leg block k of the image, counted from 0
-abbrev pub node_block_of : Net → ℕ → List ℕ
-node_block_of N k = table_block 42 2 1 (node_bytes_at N) N.n k
+-- the records of the nodes from node i on, and of the legs from leg k of node i on
+abbrev pub node_records_from : Net → ℕ → List (List ℕ)
+node_records_from N i = records_from (node_bytes_at N) N.n i
 
-abbrev pub leg_block_of : Net → ℕ → List ℕ
-leg_block_of N k = table_block 42 3 (1 + blocks_for 42 N.n) (leg_bytes_at N) (leg_count N) k
-
--- a place in a row that leg j of the whole network is next to
-pub record Standing (N : Net) (node leg j : ℕ) : Type 0 where
-  pub node_in : node < N.n
-  pub leg_in : leg ≤ length (legs_at N node)
-  pub place_is : first_of_node N node + leg ≡ j
+abbrev pub leg_records_from : Net → ℕ → ℕ → List (List ℕ)
+leg_records_from N i k = records_from (leg_bytes_at N) (leg_count N) (first_of_node N i + k)

@@ -6,7 +6,7 @@ ghost use Rattle.image_writer.specs.declared.fault.WriteFault.TheVariants.{Netwo
 use network::fault::NetworkFault;
 
 /// A row that cannot be read, a node with a cost that an image cannot hold, or a buffer that is too short.
-#[derive(Clone, Copy, PartialEq, Debug)]
+#[derive(Clone, Copy, PartialEq, Eq, Debug)]
 pub enum WriteFault {
     Network(NetworkFault),
     CostTooLarge { node: u16 },

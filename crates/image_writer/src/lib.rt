@@ -6,4 +6,5 @@ pub mod fault;
 mod legs;
 mod nodes;
 mod records;
+mod table;
 pub mod write;

@@ -1,94 +1,54 @@
 -- What comes of going along one leg more.
-use Rattle.std.proofs.Common.{◌≡◌, ℕ, zero, suc, ◌+◌, ◌<◌, ◌≤◌, Bool, true, false, ◌||◌, List, [], ◌∷◌, length, get_or, take, drop, Some, Ok, Err, Result, sym, refl, ap, ◌∙◌, cond, leb, ltb, eqb, ◌&&◌, add-one, arith}
+use Rattle.std.proofs.Common.{◌≡◌, ℕ, ◌+◌, ◌<◌, ◌≤◌, List, ◌∷◌, length, get_or, take, drop, Some, Ok, Err, Option, Result, sym, ◌∙◌, add-one, arith}
 use Rattle.std.proofs.lemmas.Bool.Decides.{nat_tests}
-use Rattle.std.proofs.lemmas.Bool.{cond-true, cond-false, lt-ltb, le-ltb}
 use Rattle.std.proofs.Math.Seq.{drop-cons}
 use Rattle.std.proofs.lemmas.List.{get_or-take, length-take}
-use Rattle.agendas.specs.Bags.{OneMore}
-use Rattle.network.specs.Meaning.{Net, no_leg}
+use Rattle.std.specs.Result.{result_map_both}
+use Rattle.agendas.specs.Bags.{PutSays}
+use Rattle.agendas.specs.declared.fault.AgendaFault.{AgendaFault}
+use Rattle.network.specs.Meaning.{Net, legs_at, no_leg}
 use Rattle.network.specs.declared.leg.Leg.{Leg}
 use Rattle.labels.specs.Kinds.{Kind}
-use Rattle.labels.specs.declared.step.Step.{Step}
-use Rattle.paths.specs.Paths.{step_of}
+use Rattle.label_table.specs.declared.table.Departure.{Departure}
+use Rattle.label_table.specs.declared.table.LabelTable.{LabelTable}
 use Rattle.label_table.specs.declared.row.Row.{Row}
-use Rattle.label_table.specs.Refusals.{RunRefusal, refused}
-use Rattle.label_table.specs.Rows.{any, stands_over, fresh, entering}
-use Rattle.label_table.specs.Considering.{Joined, Verdict, covered, entered, added, counted, considered, weighed, legged, along}
+use Rattle.label_table.specs.Refusals.{RunRefusal}
+use Rattle.label_table.specs.Considering.{Joined, EntersMore, Verdict, added, considered, row_along, along, along_row}
 
-or_true : (b : Bool) → (b || true) ≡ true
-or_true true = refl
-or_true false = refl
+-- an entry that was put waits
+pub put_joined : {F : Type 0} {less more : List ℕ} {e e' : ℕ} {u : Unit {0}} (f : AgendaFault → F) (limit : ℕ) (r : Result (Unit {0}) AgendaFault) → result_map_both (λ x. x) f r ≡ Ok u → PutSays r less more limit e → e' ≡ e + 1 → Joined less more e e'
+put_joined f limit (Ok u) q (room, o) h = record {
+  counts = λ x. let one = o.counts x in grind (arith, nat_tests);
+  len = omega arith;
+}
+put_joined f limit (Err a) q says h = cc
 
--- what stands among the first e was found among them
-pub any_found : {X : Type 0} (p : X → Bool) (xs : List X) (e k : ℕ) (d : X) → k < e → k < length xs → p (get_or xs k d) ≡ true → any p (take e xs) ≡ true
-any_found p [] e k d h l t = absurd (omega arith)
-any_found p (x ∷ xs) zero k d h l t = absurd (omega arith)
-any_found p (x ∷ xs) (suc e) zero d h l t = ap (λ b. b || any p (take e xs)) t
-any_found p (x ∷ xs) (suc e) (suc k) d h l t = ap (λ b. p x || b) (any_found p xs e k d (omega arith) (omega arith) t) ∙ or_true (p x)
-
-or_false : (b c : Bool) → (b || c) ≡ false → (b ≡ false) × (c ≡ false)
-or_false true c e = let z : ◌≡◌ {A = Bool} true false = e in cc
-or_false false c e = (refl, e)
-
--- and what does not stand at k either was not found up to there
-pub any_none : {X : Type 0} (p : X → Bool) (xs : List X) (k e : ℕ) (d : X) → k < length xs → k + 1 ≡ e → any p (take k xs) ≡ false → p (get_or xs k d) ≡ false → any p (take e xs) ≡ false
-any_none p [] k e d h q a t = absurd (omega arith)
-any_none p (x ∷ xs) zero zero d h q a t = absurd (omega arith)
-any_none p (x ∷ xs) zero (suc e) d h q a t =
-    let z : e ≡ 0 = omega arith in
-    ap (λ b. b || any p (take e xs)) t ∙ ap (λ n. any p (take n xs)) z
-any_none p (x ∷ xs) (suc k) zero d h q a t = absurd (omega arith)
-any_none p (x ∷ xs) (suc k) (suc e) d h q a t =
-    let s = or_false _ _ a in
-    ap (λ b. b || any p (take e xs)) s.0 ∙ any_none p xs k e d (omega arith) (omega arith) s.1 t
-
-one_further : (e0 e x : ℕ) → e0 ≤ e → cond (leb e0 x && ltb x e) 1 0 + cond (eqb x e) 1 0 ≡ cond (leb e0 x && ltb x (e + 1)) 1 0
-one_further e0 e x h = grind (arith, nat_tests)
-
--- one entry more waits
-pub joined_more : (less more more' : List ℕ) (e0 e : ℕ) → e0 ≤ e → Joined less more e0 e → OneMore more more' e → Joined less more' e0 (e + 1)
-joined_more less more more' e0 e h j o = record {
-  counts = λ x. let a = j.counts x in let b = o.counts x in let c = one_further e0 e x h in omega (arith, a, b, c);
-  len = let a = j.len in let b = o.len in omega (arith, a, b);
+-- one after the other
+pub more_still : {L : Type 0} {x y z : LabelTable L} {xs ys zs : List ℕ} → EntersMore x y xs ys → EntersMore y z ys zs → EntersMore x z xs zs
+more_still p q = record {
+  same_reference = q.same_reference ∙ p.same_reference;
+  len = q.len ∙ p.len;
+  least = omega arith;
+  puts = record {
+    counts = λ n. let u = p.puts.counts n in let v = q.puts.counts n in grind (arith, nat_tests);
+    len = omega arith;
+  };
 }
 
 -- the first of the legs that are left
-next_leg : (legs : List Leg) (k end : ℕ) → k < end → end ≤ length legs → drop k (take end legs) ≡ get_or legs k no_leg ∷ drop (k + 1) (take end legs)
-next_leg legs k end h n =
+next_of : (legs : List Leg) (k end : ℕ) → k < end → end ≤ length legs → drop k (take end legs) ≡ get_or legs k no_leg ∷ drop (k + 1) (take end legs)
+next_of legs k end h n =
     let q : k < length (take end legs) = omega (arith, length-take end legs) in
-    rw add-one (drop-cons (take end legs) k no_leg q ∙ ap (λ x. x ∷ drop (suc k) (take end legs)) (get_or-take end legs k no_leg h))
+    rw (add-one, drop-cons (take end legs) k no_leg, get_or-take)
 
-module _ {L : Type 0} (K : Kind L) (room : ℕ) (e held : ℕ) (row : Row L) (rows : List (Row L)) where
-  pub when_covered : any (stands_over K row.node row.label) (take e rows) ≡ true → considered K room e held row rows ≡ (Ok covered, rows)
-  when_covered a = cond-true _ _ _ a
+-- t comes of the legs that are left, from the k-th up to before end
+pub record Left {L : Type 0} (N : Net) (K : Kind L) (room : ℕ) (d : Departure L) (end k e held : ℕ) (rows : List (Row L)) (t : ℕ × Option RunRefusal × List (Row L)) : Type 0 where
+  pub is : t ≡ along_row N K room d k end e held rows
 
-  pub when_full : any (stands_over K row.node row.label) (take e rows) ≡ false → length rows ≤ e → considered K room e held row rows ≡ (Err (refused 17 row.parent), rows)
-  when_full a l = cond-false _ _ _ a ∙ cond-false _ _ _ (le-ltb _ _ l)
+-- along one leg more
+module _ {L : Type 0} {N : Net} {K : Kind L} {room : ℕ} {d : Departure L} {k end : ℕ} {e held : ℕ} {row : Row L} {rows rows' : List (Row L)} {t : ℕ × Option RunRefusal × List (Row L)} where
+  pub next_leg : Left N K room d end k e held rows t → k < end → end ≤ length (legs_at N d.node) → Some row ≡ row_along N K d k (get_or (legs_at N d.node) k no_leg) → {k' e' held' : ℕ} (v : Verdict) → considered K room e held row rows ≡ (Ok v, rows') → k + 1 ≡ k' → e + added v ≡ e' → held + added v ≡ held' → Left N K room d end k' e' held' rows' t
+  next_leg r h n x v w o p q = record { is = r.is ∙ rw (next_of (legs_at N d.node) k end h n, along, ← x, w, ← x, w, o, p, q) }
 
-  pub when_crowded : any (stands_over K row.node row.label) (take e rows) ≡ false → e < length rows → room ≤ held → considered K room e held row rows ≡ (Err (refused 12 row.parent), rows)
-  when_crowded a l r = cond-false _ _ _ a ∙ cond-true _ _ _ (lt-ltb _ _ l) ∙ cond-false _ _ _ (le-ltb _ _ r)
-
-  pub when_entered : any (stands_over K row.node row.label) (take e rows) ≡ false → e < length rows → held < room → considered K room e held row rows ≡ (Ok entered, entering K e row rows)
-  when_entered a l r = cond-false _ _ _ a ∙ cond-true _ _ _ (lt-ltb _ _ l) ∙ cond-true _ _ _ (lt-ltb _ _ r)
-
-module _ {L : Type 0} (N : Net) (K : Kind L) (room : ℕ) (i : ℕ) (l : L) (k end : ℕ) (legs : List Leg) (s : Step) (next : L) where
-  -- the label that the leg gives is weighed
-  weighed_leg : (e held : ℕ) (rows : List (Row L)) (o : Result Verdict RunRefusal × List (Row L)) → s ≡ step_of N (get_or legs k no_leg) → Some next ≡ K.extend l s → considered K room e held (fresh s.head i k next) rows ≡ o → legged N K room i l k (get_or legs k no_leg) e held rows ≡ (counted o.0, o.1)
-  weighed_leg e held rows o q x c =
-      ap (λ z. weighed K room i k (get_or legs k no_leg).head z e held rows) (ap (λ z. K.extend l z) (sym q) ∙ sym x)
-      ∙ ap (λ z. weighed K room i k z (Some next) e held rows) (sym (ap (λ z. z.head) q))
-      ∙ ap (λ z. (counted z.0, z.1)) c
-
-  -- where it is covered or enters, the legs after it come next
-  pub went_on : (e held e' held' : ℕ) (rows rows' : List (Row L)) (v : Verdict) → k < end → end ≤ length legs → s ≡ step_of N (get_or legs k no_leg) → Some next ≡ K.extend l s → considered K room e held (fresh s.head i k next) rows ≡ (Ok v, rows') → e + added v ≡ e' → held + added v ≡ held' → along N K room i l k (drop k (take end legs)) e held rows ≡ along N K room i l (k + 1) (drop (k + 1) (take end legs)) e' held' rows'
-  went_on e held e' held' rows rows' v h n q x c p w =
-      ap (λ z. along N K room i l k z e held rows) (next_leg legs k end h n)
-      ∙ ap (λ o. elim o.0 [ Ok d ↦ along N K room i l (k + 1) (drop (k + 1) (take end legs)) (e + d) (held + d) o.1 | Err f ↦ (e, Some f, o.1) ]) (weighed_leg e held rows (Ok v, rows') q x c)
-      ∙ ap (λ z. along N K room i l (k + 1) (drop (k + 1) (take end legs)) z (held + added v) rows') p
-      ∙ ap (λ z. along N K room i l (k + 1) (drop (k + 1) (take end legs)) e' z rows') w
-
-  -- where it has no place, no leg after it is gone along
-  pub stopped : (e held : ℕ) (rows rows' : List (Row L)) (f : RunRefusal) → k < end → end ≤ length legs → s ≡ step_of N (get_or legs k no_leg) → Some next ≡ K.extend l s → considered K room e held (fresh s.head i k next) rows ≡ (Err f, rows') → along N K room i l k (drop k (take end legs)) e held rows ≡ (e, Some f, rows')
-  stopped e held rows rows' f h n q x c =
-      ap (λ z. along N K room i l k z e held rows) (next_leg legs k end h n)
-      ∙ ap (λ o. elim o.0 [ Ok d ↦ along N K room i l (k + 1) (drop (k + 1) (take end legs)) (e + d) (held + d) o.1 | Err g ↦ (e, Some g, o.1) ]) (weighed_leg e held rows (Err f, rows') q x c)
+  pub last_leg : Left N K room d end k e held rows t → k < end → end ≤ length (legs_at N d.node) → Some row ≡ row_along N K d k (get_or (legs_at N d.node) k no_leg) → (f : RunRefusal) → considered K room e held row rows ≡ (Err f, rows') → (e, Some f, rows') ≡ t
+  last_leg r h n x f w = sym (r.is ∙ rw (next_of (legs_at N d.node) k end h n, along, ← x, w, ← x, w))

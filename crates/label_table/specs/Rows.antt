@@ -1,11 +1,7 @@
 -- The rows of the label table.
-use Rattle.std.specs.Prelude.{ℕ, Bool, true, false, not, ◌&&◌, ◌||◌, List, [], ◌∷◌, ◌++◌, map, take, drop, ◌==◌, slice_set}
+use Rattle.std.specs.Prelude.{ℕ, Bool, true, false, not, ◌&&◌, List, ◌++◌, map, take, drop, ◌==◌, slice_set}
 use Rattle.labels.specs.Kinds.{Kind}
 use Rattle.label_table.specs.declared.row.Row.{Row}
-
-abbrev pub any : {X : Type 0} → (X → Bool) → List X → Bool
-any p [] = false
-any p (x ∷ xs) = p x || any p xs
 
 module _ {L : Type 0} (K : Kind L) where
   -- r stands at j and covers l
@@ -18,7 +14,7 @@ module _ {L : Type 0} (K : Kind L) where
 
   -- what becomes of r as l enters at j
   abbrev pub lowered : ℕ → L → Row L → Row L
-  lowered j l r = record { node = r.node; parent = r.parent; leg = r.leg; label = r.label; stands = r.stands && not (beaten j l r); treated = r.treated }
+  lowered j l r = record r { stands = r.stands && not (beaten j l r) }
 
   -- the row enters as number e: the standing entries at its node that it covers cease to stand
   abbrev pub entering : ℕ → Row L → List (Row L) → List (Row L)
@@ -29,4 +25,4 @@ abbrev pub fresh : {L : Type 0} → ℕ → ℕ → ℕ → L → Row L
 fresh j p k l = record { node = j; parent = p; leg = k; label = l; stands = true; treated = false }
 
 abbrev pub marked : {L : Type 0} → Row L → Row L
-marked r = record { node = r.node; parent = r.parent; leg = r.leg; label = r.label; stands = r.stands; treated = true }
+marked r = record r { treated = true }

@@ -1,10 +1,10 @@
 //! Why a run refuses.
 ghost use Rattle.std.specs.Prelude.{◌≡◌};
-ghost use Rattle.std.specs.Result.{result_map_both};
 ghost use Rattle.label_table.specs.Refusals.{cause_number, fault_at};
-ghost use Rattle.label_table.specs.declared.fault.Cause.TheVariants.{Network as OfNetwork};
+ghost use Rattle.label_table.specs.declared.fault.Cause.TheVariants.{Network as OfNetwork, AgendaFull};
 
-use network::fault::NetworkFault;
+use agendas::fault::AgendaFault;
+use network::fault::{Met, NetworkFault};
 
 /// What stands in the way of a call on a run.
 #[derive(Clone, Copy, PartialEq, Eq, Debug)]
@@ -71,27 +71,18 @@ impl RunFault {
     }
 }
 
-/// A fault of a network that was met at an entry.
-#[derive(Clone, Copy)]
-pub struct AtEntry {
-    pub entry: u16,
-    pub fault: NetworkFault,
-}
+impl From<Met<NetworkFault>> for RunFault {
+    ghost from_gives = { λ m r. r ≡ fault_at (OfNetwork m.fault) m.at };
 
-impl From<AtEntry> for RunFault {
-    ghost from_gives = { λ a r. r ≡ fault_at (OfNetwork a.fault) a.entry };
-
-    fn from(a: AtEntry) -> RunFault {
-        Cause::Network(a.fault).at(a.entry)
+    fn from(m: Met<NetworkFault>) -> RunFault {
+        Cause::Network(m.fault).at(m.at)
     }
 }
 
-/// What a network answered, at an entry.
-pub fn at_entry<T>(r: Result<T, NetworkFault>, entry: u16) -> Result<T, AtEntry>
-    ensures { result ≡ result_map_both (λ x. x) (λ f. record { entry = entry; fault = f }) r }
-{
-    match r {
-        Ok(x) => Ok(x),
-        Err(fault) => Err(AtEntry { entry, fault }),
+impl From<Met<AgendaFault>> for RunFault {
+    ghost from_gives = { λ m r. r ≡ fault_at AgendaFull m.at };
+
+    fn from(m: Met<AgendaFault>) -> RunFault {
+        Cause::AgendaFull.at(m.at)
     }
 }

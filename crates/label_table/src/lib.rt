@@ -4,3 +4,6 @@
 pub mod consider;
 pub mod fault;
 pub mod row;
+pub mod table;
+#[cfg(test)]
+mod tests;

@@ -7,7 +7,7 @@ use labels::label::Label;
 /// An entry: a label at a node, the entry and the leg that it came by, and what became of it.
 ///
 /// The first entry has parent 0 and the leg number [`NO_LEG_TAKEN`](paths::stop::NO_LEG_TAKEN).
-#[derive(Clone, Copy)]
+#[derive(Clone, Copy, PartialEq, Eq, Debug)]
 pub struct Row<L> {
     pub node: u16,
     pub parent: u16,

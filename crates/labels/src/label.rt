@@ -36,5 +36,5 @@ pub trait Label: Copy {
 pub fn in_bounds(time: u32, cost: i64) -> bool
     ensures { result ≡ inside time cost }
 {
-    time <= MAX_TIME && cost.unsigned_abs() <= time as u64 * MAX_REACH as u64
+    time <= MAX_TIME && cost.unsigned_abs() <= u64::from(time) * u64::from(MAX_REACH)
 }

@@ -1,5 +1,5 @@
 //! Sets of nodes numbered below 64.
-ghost use Rattle.std.specs.Prelude.{◌≡◌, true};
+ghost use Rattle.std.specs.Prelude.{◌≡◌, ◌^◌, cond, nat_lt, true};
 ghost use Rattle.labels.specs.Sets.{no_nodes, Empty, has, adding, OneMore, within, Subset};
 
 /// A set of nodes numbered below 64: bit `i` stands for node `i`.
@@ -8,6 +8,14 @@ pub struct NodeSet {
     bits: u64,
 }
 
+/// The bit of a node, or none where the node is not below 64.
+fn bit(node: u16) -> u64
+    ensures { result ≡ cond (nat_lt node 64) (2 ^ node) 0 }
+{
+    1u64.checked_shl(u32::from(node)).unwrap_or(0)
+}
+
+#[tactic(auto, using(crate::specs::SetsLemmas::sets))]
 impl NodeSet {
     pub fn empty() -> NodeSet
         ensures set { result ≡ no_nodes }
@@ -20,7 +28,7 @@ impl NodeSet {
     pub fn has(self, node: u16) -> bool
         ensures { result ≡ has self node }
     {
-        node < 64 && (self.bits >> node) % 2 == 1
+        self.bits & bit(node) != 0
     }
 
     /// The set with one node more, or the same where the node is not below 64.
@@ -28,11 +36,8 @@ impl NodeSet {
         ensures set { result ≡ adding self node }
         ensures members { OneMore self node result }
     {
-        if node >= 64 {
-            return self;
-        }
         NodeSet {
-            bits: self.bits | 1u64 << node,
+            bits: self.bits | bit(node),
         }
     }
 

@@ -3,8 +3,8 @@ ghost use Rattle.labels.specs.Onces.{once_kind};
 ghost use Rattle.labels.specs.OncesLemmas.{once_laws};
 
 use crate::label::Label;
-use crate::node_set::*;
-use crate::plain::*;
+use crate::node_set::NodeSet;
+use crate::plain::Plain;
 use crate::step::Step;
 
 /// A plain label, and the nodes numbered below 64 that the way has visited.
@@ -30,13 +30,10 @@ impl Label for Once {
         if self.visited.has(step.head) {
             return None;
         }
-        match self.plain.extend(step) {
-            Some(plain) => Some(Once {
-                plain,
-                visited: self.visited.with(step.head),
-            }),
-            None => None,
-        }
+        Some(Once {
+            plain: self.plain.extend(step)?,
+            visited: self.visited.with(step.head),
+        })
     }
 
     fn covers(&self, other: &Once) -> bool {

@@ -28,13 +28,13 @@ impl Label for Plain {
         if !in_bounds(self.time, self.cost) {
             return None;
         }
-        let arrives = self.time as u64 + step.duration as u64;
-        if arrives > step.closes as u64 {
+        let arrives = self.time.checked_add(step.duration)?;
+        if arrives > step.closes {
             return None;
         }
         Some(Plain {
-            time: step.opens.max(arrives as u32),
-            cost: self.cost + step.cost as i64,
+            time: step.opens.max(arrives),
+            cost: self.cost + i64::from(step.cost),
         })
     }
 

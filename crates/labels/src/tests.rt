@@ -1,10 +1,9 @@
 //! Labels by example.
-use crate::label::*;
-use crate::node_set::*;
-use crate::once::*;
-use crate::plain::*;
-use crate::step::*;
-use std::test::Fail;
+use crate::label::{Label, in_bounds};
+use crate::node_set::NodeSet;
+use crate::once::Once;
+use crate::plain::Plain;
+use crate::step::Step;
 
 /// A step of duration 5 and cost -2 to a node that is open from 10 to 20.
 fn to(head: u16) -> Step {
@@ -110,21 +109,18 @@ fn coverings(rt: HostRuntime) {
 }
 
 #[test]
-fn visits(rt: HostRuntime) -> Result<(), Fail> {
+fn visits(rt: HostRuntime) {
     for (depot, back) in [(0, false), (63, false), (64, true), (65_535, true)] {
         let start = Once::start(15, depot);
         assert_eq!(rt; start.extend(&to(depot)).is_some(), back);
         assert_eq!(rt; start.visited.has(depot), !back);
     }
     let start = Once::start(0, 64);
-    let Some(there) = start.extend(&to(63)) else {
-        return Err(Fail::new("node 63 was not visited"));
-    };
+    let there = start.extend(&to(63)).expect(&rt, "node 63 was not visited");
     assert_eq!(rt;
         (there.time(), there.cost(), there.visited),
         (10, -2, NodeSet::empty().with(63))
     );
     assert_eq!(rt; there.extend(&to(63)), None);
     assert!(rt; there.extend(&to(62)).is_some());
-    Ok(())
 }

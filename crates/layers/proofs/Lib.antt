@@ -1,3 +1,2 @@
-pub mod Through
 pub mod Pricing
 pub mod Barring

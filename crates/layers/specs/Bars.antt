@@ -1,5 +1,6 @@
 -- A network without the legs between barred pairs of nodes.
-use Rattle.std.specs.Prelude.{ℕ, Bool, false, cond, not, ◌&&◌, ◌||◌, List, [], ◌∷◌, ◌++◌, length, take, Ok, Err, filter, Result, ◌==◌, nat_eq, nat_lt}
+use Rattle.std.specs.Prelude.{ℕ, Bool, cond, not, ◌&&◌, List, [], ◌∷◌, ◌++◌, length, Ok, Err, filter, Result, ◌==◌, nat_eq, nat_lt}
+use Rattle.std.specs.List.{list_any}
 use Rattle.network.specs.Meaning.{Net}
 use Rattle.network.specs.Refusals.{NetworkRefusal, no_node}
 use Rattle.network.specs.declared.leg.Leg.{Leg}
@@ -14,26 +15,17 @@ Pairs = List (ℕ × ℕ)
 abbrev pub most_pairs : ℕ
 most_pairs = 256
 
--- the pairs that stand in the first places of a table
-abbrev pub standing : Pairs → ℕ → Pairs
-standing table count = take count table
-
 -- whether a pair is i and j
 abbrev pub is_pair : ℕ × ℕ → ℕ → ℕ → Bool
 is_pair p i j = p.0 == i && p.1 == j
 
--- whether one of the pairs passes a test
-abbrev pub any_pair : (ℕ × ℕ → Bool) → Pairs → Bool
-any_pair test [] = false
-any_pair test (p ∷ ps) = test p || any_pair test ps
-
 -- whether one of the pairs is i and j
 abbrev pub is_barred : Pairs → ℕ → ℕ → Bool
-is_barred ps i j = any_pair (λ p. is_pair p i j) ps
+is_barred ps i j = list_any (λ p. is_pair p i j) ps
 
 -- whether one of the pairs leaves node i
 abbrev pub bars_from : Pairs → ℕ → Bool
-bars_from ps i = any_pair (λ p. nat_eq p.0 i) ps
+bars_from ps i = list_any (λ p. nat_eq p.0 i) ps
 
 -- whether a leg of node i stays
 abbrev pub stays : Pairs → ℕ → Leg → Bool

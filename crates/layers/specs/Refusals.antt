@@ -1,5 +1,6 @@
 -- Refusals of a layer in numbers: each case has its number and the node that it names.
-use Rattle.std.specs.Prelude.{ℕ, Ok, Err, Result}
+use Rattle.std.specs.Prelude.{ℕ, List, ◌++◌, Ok, Err, Result, codes}
+use Rattle.std.specs.Fmt.{decimal}
 use Rattle.network.specs.Refusals.{NetworkRefusal, no_file, no_node}
 use Rattle.layers.specs.declared.fault.LayerFault.{LayerFault}
 use Rattle.layers.specs.declared.fault.LayerFault.TheVariants.{NoNode, PriceTooLarge, TooManyBars}
@@ -22,3 +23,7 @@ layer_refusal (TooManyBars i) = too_many_bars i
 abbrev pub told : {X : Type 0} → Result X LayerFault → Result X NetworkRefusal
 told (Ok x) = Ok x
 told (Err e) = Err (layer_refusal e)
+
+-- how a refusal is printed: its number and its node
+abbrev pub layer_refusal_text : NetworkRefusal → List ℕ
+layer_refusal_text r = decimal r.number ++ codes " " ++ decimal r.node

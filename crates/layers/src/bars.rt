@@ -1,83 +1,63 @@
 //! Bars between nodes.
-ghost use Rattle.std.specs.Prelude.{◌≡◌, ◌≤◌, [], length};
-ghost use Rattle.layers.specs.Bars.{most_pairs, standing, is_pair, is_barred, bars_from, barred, bar_pair};
+ghost use Rattle.std.specs.Prelude.{◌≡◌, []};
+ghost use Rattle.layers.specs.Bars.{is_barred, bars_from, stays, barred, bar_pair};
 ghost use Rattle.layers.specs.BarsLawful.{barred_lawful};
 ghost use Rattle.layers.specs.Refusals.{told};
 
 use crate::draft::{Draft, Sealed};
-use crate::fault::LayerFault;
+use crate::fault::{LayerFault, known};
+use arrayvec::ArrayVec;
 use network::fault::NetworkFault;
 use network::leg::{Leg, Window};
 use network::network::Network;
-use network::reading::leg_at;
+use network::row::legs_from;
 
 /// The most pairs that are barred.
 pub const MAX_PAIRS: u16 = 256;
 
-/// Pairs of nodes of the network below: every leg from the first to the second of a pair is left out.
-///
-/// The pairs stand in the first places of the table, each once.
+// The places for them.
+const PLACES: usize = MAX_PAIRS as usize;
+
+/// Pairs of nodes of the network below, each once: every leg from the first to the second of a pair is left out.
 #[derive(Drop)]
 pub struct Bars<N: Network> {
     pub(crate) below: N,
-    pub(crate) table: [(u16, u16); MAX_PAIRS as usize],
-    pub(crate) count: u16,
-    ghost room: { count ≤ most_pairs },
-}
-
-// Whether a pair is `i` and `j`.
-fn is_pair(pair: (u16, u16), i: u16, j: u16) -> bool
-    ensures { result ≡ is_pair pair i j }
-{
-    pair.0 == i && pair.1 == j
-}
-
-// Whether one of the pairs is `i` and `j`.
-fn has_pair(pairs: &[(u16, u16)], i: u16, j: u16) -> bool
-    ensures { result ≡ is_barred pairs.now i j }
-{
-    for p in 0..pairs.len() {
-        if is_pair(pairs[p], i, j) {
-            return true;
-        }
-    }
-    false
-}
-
-// Whether one of the pairs leaves node `i`.
-fn has_pair_from(pairs: &[(u16, u16)], i: u16) -> bool
-    ensures { result ≡ bars_from pairs.now i }
-{
-    for p in 0..pairs.len() {
-        if pairs[p].0 == i {
-            return true;
-        }
-    }
-    false
+    pub(crate) pairs: ArrayVec<(u16, u16), PLACES>,
 }
 
 impl<N: Network> Bars<N> {
     /// A draft over a network, with no pair barred.
     pub fn over(below: N) -> Draft<Bars<N>>
-        ensures pairs { standing result.layer.table result.layer.count ≡ [] }
+        ensures pairs { result.layer.pairs.items ≡ [] }
         ensures below { result.layer.below ≡ below }
     {
         Draft {
             layer: Bars {
                 below,
-                table: [(0, 0); MAX_PAIRS as usize],
-                count: 0,
+                pairs: ArrayVec::new(),
             },
         }
     }
 
-    // The pairs that are barred.
-    fn pairs(&self) -> &[(u16, u16)]
-        ensures pairs { result.now ≡ standing self.now.table self.now.count }
-        ensures places { length self.now.table ≡ most_pairs }
+    // Whether the legs from node `i` to node `j` are barred.
+    fn is_barred(&self, i: u16, j: u16) -> bool
+        ensures { result ≡ is_barred self.now.pairs.items i j }
     {
-        let (pairs, _) = self.table.split_at(self.count as usize);
-        pairs
+        self.pairs.contains(&(i, j))
+    }
+
+    // Whether one of the pairs leaves node `i`.
+    fn bars_from(&self, i: u16) -> bool
+        ensures { result ≡ bars_from self.now.pairs.items i }
+    {
+        self.pairs.iter().any(|pair| pair.0 == i)
+    }
+
+    // Whether a leg of node `i` stays.
+    fn stays(&self, i: u16, leg: &Leg) -> bool
+        ensures { result ≡ stays self.now.pairs.items i leg.now }
+    {
+        !self.is_barred(i, leg.head)
     }
 }
 
@@ -87,31 +67,25 @@ impl<N: Network> Draft<Bars<N>> {
     /// Refuses 7 where there is no node `i`, or no node `j`, then 11 where 256 other pairs are barred. A pair that is
     /// barred already takes no further place. A refusal changes nothing.
     pub fn bar(&mut self, i: u16, j: u16) -> Result<(), LayerFault>
-        ensures step { (told result, standing self.new.layer.table self.new.layer.count) ≡ bar_pair (N.meaning self.old.layer.below) (standing self.old.layer.table self.old.layer.count) i j }
+        ensures step { (told result, self.new.layer.pairs.items) ≡ bar_pair (N.meaning self.old.layer.below) self.old.layer.pairs.items i j }
         ensures below { self.new.layer.below ≡ self.old.layer.below }
     {
-        if i >= self.layer.below.node_count() {
-            return Err(LayerFault::NoNode { node: i });
-        }
-        if j >= self.layer.below.node_count() {
-            return Err(LayerFault::NoNode { node: j });
-        }
-        if has_pair(self.layer.pairs(), i, j) {
+        let bars = &mut self.layer;
+        known(&bars.below, i)?;
+        known(&bars.below, j)?;
+        if bars.is_barred(i, j) {
             return Ok(());
         }
-        if self.layer.count >= MAX_PAIRS {
-            return Err(LayerFault::TooManyBars { node: i });
-        }
-        self.layer.table[self.layer.count as usize] = (i, j);
-        self.layer.count += 1;
-        Ok(())
+        bars.pairs
+            .try_push((i, j))
+            .map_err(|_| LayerFault::TooManyBars { node: i })
     }
 }
 
 impl<N: Network> Network for Sealed<Bars<N>> {
-    ghost meaning = { λ s. barred (standing s.layer.table s.layer.count) (N.Network.meaning s.layer.below) };
+    ghost meaning = { λ s. barred s.layer.pairs.items (N.Network.meaning s.layer.below) };
 
-    ghost lawful = { λ s. barred_lawful (standing s.layer.table s.layer.count) (N.Network.meaning s.layer.below) (N.Network.lawful s.layer.below) };
+    ghost lawful = { λ s. barred_lawful s.layer.pairs.items (N.Network.meaning s.layer.below) (N.Network.lawful s.layer.below) };
 
     fn node_count(&self) -> u16 {
         self.layer.below.node_count()
@@ -134,39 +108,30 @@ impl<N: Network> Network for Sealed<Bars<N>> {
     }
 
     // Costs a look at each pair; where one leaves the node, also every leg of the row below with a look at each pair.
+    #[tactic(auto, using(crate::proofs::Barring::length_below))]
     fn row_len(&self, i: u16) -> Result<u16, NetworkFault> {
-        let len = self.layer.below.row_len(i)?;
-        let pairs = self.layer.pairs();
-        if !has_pair_from(pairs, i) {
+        let bars = &self.layer;
+        let len = bars.below.row_len(i)?;
+        if !bars.bars_from(i) {
             return Ok(len);
         }
-        let mut count: u16 = 0;
-        for k in 0..len {
-            let leg = leg_at(&self.layer.below, i, k);
-            if !has_pair(pairs, i, leg.head) {
-                count += 1;
-            }
-        }
-        Ok(count)
+        let left = legs_from(&bars.below, i, 0)
+            .filter(|leg| bars.stays(i, leg))
+            .count();
+        Ok(left as u16)
     }
 
     // Costs as `row_len`, but the row below is read only up to the leg that is asked for.
+    #[tactic(auto, using(crate::proofs::Barring::leg_below))]
     fn leg(&self, i: u16, k: u16) -> Result<Leg, NetworkFault> {
-        let pairs = self.layer.pairs();
-        if !has_pair_from(pairs, i) {
-            return self.layer.below.leg(i, k);
+        let bars = &self.layer;
+        if !bars.bars_from(i) {
+            return bars.below.leg(i, k);
         }
-        let len = self.layer.below.row_len(i)?;
-        let mut left = k;
-        for j in 0..len {
-            let leg = leg_at(&self.layer.below, i, j);
-            if !has_pair(pairs, i, leg.head) {
-                if left == 0 {
-                    return Ok(leg);
-                }
-                left -= 1;
-            }
-        }
-        Err(NetworkFault::NoLeg { node: i })
+        bars.below.row_len(i)?;
+        legs_from(&bars.below, i, 0)
+            .filter(|leg| bars.stays(i, leg))
+            .nth(k as usize)
+            .ok_or(NetworkFault::NoLeg { node: i })
     }
 }

@@ -8,6 +8,7 @@ pub struct Draft<L> {
 }
 
 /// A layer that stays as it is, and answers as a network.
+// Each layer hands four questions on by itself: a trait that does it for every layer would be longer than the twelve lines.
 #[derive(Drop)]
 pub struct Sealed<L> {
     pub(crate) layer: L,

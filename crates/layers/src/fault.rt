@@ -1,6 +1,10 @@
 //! Why a layer refuses a change.
-ghost use Rattle.std.specs.Prelude.{◌≡◌};
-ghost use Rattle.layers.specs.Refusals.{layer_refusal};
+ghost use Rattle.std.specs.Prelude.{◌≡◌, Some, Ok};
+ghost use Rattle.network.specs.Answers.{if_node};
+ghost use Rattle.layers.specs.Refusals.{layer_refusal, layer_refusal_text, told};
+
+use network::network::Network;
+use std::fmt;
 
 /// Why a layer refuses a change, and the node that it names.
 #[derive(Clone, Copy, PartialEq, Eq, Debug)]
@@ -30,9 +34,28 @@ impl LayerFault {
         ensures { result ≡ (layer_refusal self.now).node }
     {
         match self {
-            LayerFault::NoNode { node } => *node,
-            LayerFault::PriceTooLarge { node } => *node,
-            LayerFault::TooManyBars { node } => *node,
+            LayerFault::NoNode { node }
+            | LayerFault::PriceTooLarge { node }
+            | LayerFault::TooManyBars { node } => *node,
         }
     }
+}
+
+/// The number of the refusal and its node.
+impl fmt::Display for LayerFault {
+    ghost output = { λ f. Some (layer_refusal_text (layer_refusal f)) };
+
+    fn fmt<W: fmt::Write>(&self, f: &mut fmt::Formatter<W>) -> fmt::Result {
+        write!(f, "{} {}", self.number(), self.node())
+    }
+}
+
+// Refuses a node that is not in the network.
+pub(crate) fn known<N: Network>(net: &N, node: u16) -> Result<(), LayerFault>
+    ensures { told result ≡ if_node (N.meaning net.now) node (Ok tt) }
+{
+    if node >= net.node_count() {
+        return Err(LayerFault::NoNode { node });
+    }
+    Ok(())
 }

@@ -6,7 +6,7 @@ ghost use Rattle.layers.specs.PricesLawful.{priced_lawful};
 ghost use Rattle.layers.specs.Refusals.{told};
 
 use crate::draft::{Draft, Sealed};
-use crate::fault::LayerFault;
+use crate::fault::{LayerFault, known};
 use network::fault::NetworkFault;
 use network::leg::{Leg, Window};
 use network::limits::{MAX_NODES, MAX_REACH};
@@ -16,48 +16,22 @@ use network::network::Network;
 pub const MAX_PRICE: u32 = 10_000_000;
 
 /// A price for each node of the network below: every leg is cheaper by the price of the node that it leaves.
+///
+/// Each price was accepted, so no cost is cut.
 #[derive(Drop)]
 pub struct Prices<N: Network> {
     pub(crate) below: N,
     pub(crate) prices: [i32; MAX_NODES as usize],
+    ghost accepted: { Accepted prices (N.meaning below) },
 }
 
-// Whether a price may stand over a network with this reach.
-fn is_acceptable(price: i32, reach: u32) -> bool
+// A cost, cut to a reach.
+fn cut(cost: i64, reach: u32) -> i32
     requires { reach ≤ most_reach }
-    ensures { result ≡ acceptable reach price }
+    ensures { result ≡ cut reach cost }
 {
-    let size = price.unsigned_abs();
-    size <= MAX_PRICE && size + reach <= MAX_REACH
-}
-
-// The reach of a layer of prices over a network with this reach.
-fn reach_over(reach: u32) -> u32
-    requires { reach ≤ most_reach }
-    ensures { result ≡ priced_reach reach }
-{
-    (reach + MAX_PRICE).min(MAX_REACH)
-}
-
-// A cost less a price, cut to a reach.
-fn cost_less(cost: i32, price: i32, reach: u32) -> i32
-    requires { reach ≤ most_reach }
-    ensures { result ≡ cut reach (cost -ℤ price) }
-{
-    let most = reach as i32;
-    cost.saturating_sub(price).clamp(-most, most)
-}
-
-// The leg, cheaper by a price, its cost cut to a reach.
-fn priced_leg(leg: Leg, price: i32, reach: u32) -> Leg
-    requires { reach ≤ most_reach }
-    ensures { result ≡ priced_leg reach price leg }
-{
-    Leg {
-        head: leg.head,
-        duration: leg.duration,
-        cost: cost_less(leg.cost, price, reach),
-    }
+    let most = i64::from(reach);
+    cost.clamp(-most, most) as i32
 }
 
 impl<N: Network> Prices<N> {
@@ -65,7 +39,6 @@ impl<N: Network> Prices<N> {
     pub fn over(below: N) -> Draft<Prices<N>>
         ensures prices { result.layer.prices ≡ replicate most_nodes (pos 0) }
         ensures below { result.layer.below ≡ below }
-        ensures accepted { Accepted result.layer.prices (N.meaning below) }
     {
         Draft {
             layer: Prices {
@@ -75,12 +48,31 @@ impl<N: Network> Prices<N> {
         }
     }
 
-    // The price of node `i`.
-    fn price_of(&self, i: u16) -> i32
-        requires { i < most_nodes }
-        ensures { result ≡ price_of self.now.prices i }
+    // Whether a price may stand here.
+    fn accepts(&self, price: i32) -> bool
+        ensures { result ≡ acceptable (N.meaning self.now.below).reach price }
     {
-        self.prices[i as usize]
+        let size = price.unsigned_abs();
+        size <= MAX_PRICE && size + self.below.reach() <= MAX_REACH
+    }
+
+    // The reach with the prices.
+    fn reach(&self) -> u32
+        ensures { result ≡ priced_reach (N.meaning self.now.below).reach }
+    {
+        (self.below.reach() + MAX_PRICE).min(MAX_REACH)
+    }
+
+    // A leg of node `i`, cheaper by the price of the node, its cost cut to the reach.
+    fn priced(&self, i: u16, leg: Leg) -> Leg
+        requires { i < most_nodes }
+        ensures { result ≡ priced_leg (priced_reach (N.meaning self.now.below).reach) (price_of self.now.prices i) leg }
+    {
+        let cost = i64::from(leg.cost) - i64::from(self.prices[i as usize]);
+        Leg {
+            cost: cut(cost, self.reach()),
+            ..leg
+        }
     }
 }
 
@@ -92,12 +84,9 @@ impl<N: Network> Draft<Prices<N>> {
     pub fn price(&mut self, node: u16, price: i32) -> Result<(), LayerFault>
         ensures step { (told result, self.new.layer.prices) ≡ set_price (N.meaning self.old.layer.below) self.old.layer.prices node price }
         ensures below { self.new.layer.below ≡ self.old.layer.below }
-        ensures accepted { Accepted self.old.layer.prices (N.meaning self.old.layer.below) → Accepted self.new.layer.prices (N.meaning self.new.layer.below) }
     {
-        if node >= self.layer.below.node_count() {
-            return Err(LayerFault::NoNode { node });
-        }
-        if !is_acceptable(price, self.layer.below.reach()) {
+        known(&self.layer.below, node)?;
+        if !self.layer.accepts(price) {
             return Err(LayerFault::PriceTooLarge { node });
         }
         self.layer.prices[node as usize] = price;
@@ -123,7 +112,7 @@ impl<N: Network> Network for Sealed<Prices<N>> {
     }
 
     fn reach(&self) -> u32 {
-        reach_over(self.layer.below.reach())
+        self.layer.reach()
     }
 
     fn window(&self, i: u16) -> Result<Window, NetworkFault> {
@@ -136,6 +125,6 @@ impl<N: Network> Network for Sealed<Prices<N>> {
 
     fn leg(&self, i: u16, k: u16) -> Result<Leg, NetworkFault> {
         let leg = self.layer.below.leg(i, k)?;
-        Ok(priced_leg(leg, self.layer.price_of(i), self.reach()))
+        Ok(self.layer.priced(i, leg))
     }
 }

@@ -1,11 +1,16 @@
 //! The lines that list a network, and the image that a program reads.
 #![tactic(auto)]
 
-ghost use Rattle.std.specs.Prelude.{◌≤◌, IfSome, IfOk, vec_len};
+ghost use Rattle.std.specs.Prelude.{◌<◌, ◌≤◌, IfSome, IfOk, vec_len};
 
-use network::fault::{FileFault, NetworkFault};
+use image::source::ImageSource;
+use network::fault::{FilePart, NetworkFault};
+use network::leg::{Leg, Window};
 use network::network::Network;
+use network::reading::window_at;
+use network::row::legs_from;
 use std::alloc::Global;
+use std::fmt::Display;
 use std::io;
 use std::io::Read;
 
@@ -24,59 +29,62 @@ pub fn input(rt: &HostRuntime, heap: Global) -> io::Result<Option<Vec<u8>>>
     Ok(Some(bytes))
 }
 
-/// The refusal of a file.
-pub fn refuse(rt: &HostRuntime, fault: FileFault) -> io::Result<()> {
-    let number = fault.part.number();
-    let block = fault.block;
-    let byte = fault.byte;
-    println!(rt; "REFUSED {number} {block} {byte}")
+/// The refusal of a file or of a change.
+pub fn refuse<F: Display + Drop>(rt: &HostRuntime, fault: F) -> io::Result<()> {
+    println!(rt; "REFUSED {fault}")
+}
+
+/// Opens the image that standard input holds and hands its source over, or prints its refusal.
+pub fn with_source<F: FnOnce(ImageSource) -> io::Result<()> + Drop>(
+    rt: &HostRuntime,
+    heap: Global,
+    then: F,
+) -> io::Result<()>
+    requires { F.IsAlwaysCallable then }
+{
+    let Some(image) = input(rt, heap)? else {
+        return refuse(rt, FilePart::Size.at(0, 0));
+    };
+    let mut source = ImageSource::built_in();
+    match source.open(image.as_slice()) {
+        Ok(()) => then(source),
+        Err(fault) => refuse(rt, fault),
+    }
 }
 
 /// Node `i` with its window.
-fn list_stop<N: Network>(rt: &HostRuntime, net: &N, i: u16) -> io::Result<()> {
-    if let Ok(window) = net.window(i) {
-        let opens = window.opens;
-        let closes = window.closes;
-        println!(rt; "stop {i} {opens} {closes}")?;
-    }
-    Ok(())
+fn list_stop<N: Network>(rt: &HostRuntime, net: &N, i: u16) -> io::Result<()>
+    requires { i < (N.meaning net.now).n }
+{
+    let Window { opens, closes } = window_at(net, i);
+    println!(rt; "stop {i} {opens} {closes}")
 }
 
-/// Leg `k` of node `i`, with its head, duration and cost.
-fn list_leg<N: Network>(rt: &HostRuntime, net: &N, i: u16, k: u16) -> io::Result<()> {
-    if let Ok(leg) = net.leg(i, k) {
-        let head = leg.head;
-        let duration = leg.duration;
-        let cost = leg.cost;
-        println!(rt; "leg {i} {head} {duration} {cost}")?;
-    }
-    Ok(())
+/// A leg of node `i`, with its head, duration and cost.
+fn list_leg(rt: &HostRuntime, i: u16, leg: Leg) -> io::Result<()> {
+    let Leg {
+        head,
+        duration,
+        cost,
+    } = leg;
+    println!(rt; "leg {i} {head} {duration} {cost}")
 }
 
 /// The legs of node `i`, or why its row cannot be read.
 fn list_row<N: Network>(rt: &HostRuntime, net: &N, i: u16) -> io::Result<()> {
-    match net.row_len(i) {
-        Ok(len) => {
-            for k in 0..len {
-                list_leg(rt, net, i, k)?;
-            }
-            Ok(())
-        }
-        Err(NetworkFault::UnreadableRow { below, .. }) => {
-            let number = below.part.number();
-            let block = below.block;
-            let byte = below.byte;
-            println!(rt; "unreadable {i} {number} {block} {byte}")
-        }
-        Err(_) => Ok(()),
+    if let Err(NetworkFault::UnreadableRow { below, .. }) = net.row_len(i) {
+        return println!(rt; "unreadable {i} {below}");
     }
+    for leg in legs_from(net, i, 0) {
+        list_leg(rt, i, leg)?;
+    }
+    Ok(())
 }
 
 /// A network: its depot and sink, then each node with its window and its legs.
 pub fn list<N: Network>(rt: &HostRuntime, net: &N) -> io::Result<()> {
-    let depot = net.depot();
-    let sink = net.sink();
-    println!(rt; "depot {depot} sink {sink}")?;
+    println!(rt; "depot {} sink {}", net.depot(), net.sink())?;
+    // by number: a node has no other name
     for i in 0..net.node_count() {
         list_stop(rt, net, i)?;
         list_row(rt, net, i)?;

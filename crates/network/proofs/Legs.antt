@@ -1,30 +1,24 @@
 -- What is certain of a leg that is given.
-use Rattle.std.proofs.Common.{◌≡◌, ℕ, ◌<◌, ltb, length, get_or, Some, Ok, Err, Result, arith}
+use Rattle.std.proofs.Common.{◌≡◌, ℕ, ◌<◌, length, get_or, Some, Ok, Err, Result, arith}
 use Rattle.std.specs.Result.{result_ok}
-use Rattle.std.proofs.lemmas.Bool.{cond_both, ltb-true}
+use Rattle.std.proofs.lemmas.Bool.Decides.{nat_tests}
 use Rattle.network.specs.Answers.{leg_answer, row_leg}
 use Rattle.network.specs.Lawful.{Lawful}
 use Rattle.network.specs.Limits.{most_legs}
 use Rattle.network.specs.Meaning.{Net, Row, legs_row, unreadable_row, legs_of, legs_at, no_leg}
-use Rattle.network.specs.Refusals.{NetworkRefusal, told, no_such_leg, no_node}
+use Rattle.network.specs.Refusals.{told}
 use Rattle.network.specs.declared.fault.NetworkFault.{NetworkFault}
 use Rattle.network.specs.declared.leg.Leg.{Leg}
 use Rattle.network.proofs.Piles.{pile_grows}
 
-never : {r : NetworkRefusal} {g : Leg} → ◌≡◌ {A = Result Leg NetworkRefusal} (Ok g) (Err r) → ⊥
-never e = let z : ◌≡◌ {A = ℕ} 0 1 = cc in omega arith
-
-same_leg : {x y : Leg} → ◌≡◌ {A = Result Leg NetworkRefusal} (Ok x) (Ok y) → x ≡ y
-same_leg e = cc
-
 -- a leg that a row gave stands in it
 in_row : (i k : ℕ) (row : Row) (g : Leg) → Ok g ≡ row_leg i k row → (k < length (legs_of row)) × (g ≡ get_or (legs_of row) k no_leg)
-in_row i k (legs_row ls) g = cond_both (ltb k (length ls)) (Ok (get_or ls k no_leg)) (Err (no_such_leg i)) (λ a. Ok g ≡ a → (k < length ls) × (g ≡ get_or ls k no_leg)) (λ b e. (ltb-true k (length ls) b, same_leg e)) (λ b e. absurd (never e))
-in_row i k (unreadable_row f) g = λ e. absurd (never e)
+in_row i k (legs_row ls) g e = grind (arith, nat_tests)
+in_row i k (unreadable_row f) g e = cc
 
 -- and so does a leg that a network gave
 pub leg_tells : (N : Net) (i k : ℕ) (g : Leg) → Ok g ≡ leg_answer N i k → (i < N.n) × (k < length (legs_at N i)) × (g ≡ get_or (legs_at N i) k no_leg)
-leg_tells N i k g = cond_both (ltb i N.n) (row_leg i k (N.row i)) (Err (no_node i)) (λ a. Ok g ≡ a → (i < N.n) × (k < length (legs_at N i)) × (g ≡ get_or (legs_at N i) k no_leg)) (λ b e. let w = in_row i k (N.row i) g e in (ltb-true i N.n b, w.0, w.1)) (λ b e. absurd (never e))
+leg_tells N i k g e = grind (arith, nat_tests, in_row i k (N.row i) g)
 
 -- its number is below the most legs
 pub given_within : (N : Net) (i k : ℕ) (r : Result Leg NetworkFault) (g : Leg) → Lawful N → told r ≡ leg_answer N i k → Some g ≡ result_ok r → k < most_legs
@@ -32,4 +26,4 @@ given_within N i k (Ok x) g l e o =
     let t = leg_tells N i k x e in
     let p = pile_grows (legs_at N) i N.n t.0 in
     omega (arith, l.few, t.1)
-given_within N i k (Err f) g l e o = let z : ◌≡◌ {A = ℕ} 0 1 = cc in absurd (omega arith)
+given_within N i k (Err f) g l e o = cc

@@ -45,12 +45,7 @@ pile_parts w base s (suc n) =
 -- parts of any length
 pub pile_grows : {X : Type 0} (f : ℕ → List X) (i n : ℕ) → i < n → length (pile f i) + length (f i) ≤ length (pile f n)
 pile_grows f i zero l = absurd (not-suc-le-zero l)
-pile_grows f i (suc n) l =
-    let a : length (pile f n ++ f n) ≡ length (pile f n) + length (f n) = length-append (pile f n) (f n) in
-    ⊎_elim
-    (λ (q : i ≡ n). rw q (omega arith))
-    (λ (q : i ≡ n → ⊥). let g = pile_grows f i n (omega arith) in omega arith)
-    (cases_eq i n)
+pile_grows f i (suc n) l = let g = pile_grows f i n in grind (arith, length-append (pile f n) (f n))
 
 pub pile_item : {X : Type 0} (f : ℕ → List X) (n i k : ℕ) (d : X) → i < n → k < length (f i) → get_or (pile f n) (length (pile f i) + k) d ≡ get_or (f i) k d
 pile_item f zero i k d l h = absurd (not-suc-le-zero l)

@@ -1,11 +1,11 @@
 -- Rows by first legs: they begin at 0, follow one another and end at m.
-use Rattle.std.proofs.Common.{◌≡◌, ℕ, zero, suc, ◌+◌, ◌-◌, ◌<◌, ◌≤◌, List, ◌∷◌, ◌++◌, map, length, get_or, sym, refl, ap, ◌∙◌, ⊎_elim, add-zero, zero-add, add-one, arith, length-append}
+use Rattle.std.proofs.Common.{◌≡◌, ℕ, zero, suc, ◌+◌, ◌-◌, ◌<◌, ◌≤◌, List, ◌∷◌, ◌++◌, map, length, get_or, sym, refl, ap, ◌∙◌, add-zero, zero-add, add-one, arith, length-append}
 use Rattle.std.specs.List.{range_with_len}
 use Rattle.std.proofs.lemmas.List.FromFn.{length-map-range_with_len, get_or-map-range_with_len}
-use Rattle.std.proofs.lemmas.Bool.{lt-ltb, le-ltb, cond-true, cond-false, eq-eqb, ne_eqb, cases_eq, cases_lt}
+use Rattle.std.proofs.lemmas.Bool.Decides.{nat_tests}
 use Rattle.network.specs.Pile.{pile}
 use Rattle.network.specs.Meaning.{no_leg}
-use Rattle.network.specs.Rows.{start_of, least_first, most_first, InOrder, legs_from}
+use Rattle.network.specs.Rows.{start_of, InOrder, legs_from}
 use Rattle.network.specs.declared.leg.Leg.{Leg}
 
 pub length_from : (leg : ℕ → Leg) (from to : ℕ) → length (legs_from leg from to) ≡ to - from
@@ -23,10 +23,10 @@ counting_split f a (suc m) n =
 
 module _ (first : ℕ → ℕ) (n m : ℕ) where
   pub start_in_lem : (i : ℕ) → i < n → start_of first n m i ≡ first i
-  start_in_lem i h = cond-true _ _ _ (lt-ltb _ _ h)
+  start_in_lem i h = grind (arith, nat_tests)
 
   pub start_end : (i : ℕ) → n ≤ i → start_of first n m i ≡ m
-  start_end i h = cond-false _ _ _ (le-ltb _ _ h)
+  start_end i h = grind (arith, nat_tests)
 
   module _ (some : 1 ≤ n) (ordered : (i : ℕ) → i < n → InOrder first m i) where
     pub start_zero : start_of first n m 0 ≡ 0
@@ -37,34 +37,16 @@ module _ (first : ℕ → ℕ) (n m : ℕ) where
         omega arith
 
     first_most : (i : ℕ) → i < n → first i ≤ m
-    first_most i h =
-        let g = ordered i h in
-        let l : first i ≤ most_first m i = g.most in
-        ⊎_elim
-        (λ (q : i ≡ 0). let e : most_first m i ≡ 0 = cond-true _ _ _ (eq-eqb _ _ q) in omega arith)
-        (λ (q : i ≡ 0 → ⊥). let e : most_first m i ≡ m = cond-false _ _ _ (ne_eqb _ _ q) in omega arith)
-        (cases_eq i 0)
+    first_most i h = let g = ordered i h in grind (arith, nat_tests)
 
     pub start_most : (i : ℕ) → start_of first n m i ≤ m
-    start_most i =
-        ⊎_elim
-        (λ (q : i < n). let a = first_most i q in let e = start_in_lem i q in omega arith)
-        (λ (q : n ≤ i). let e = start_end i q in omega arith)
-        (cases_lt i n)
+    start_most i = let a = first_most i in grind (arith, nat_tests)
 
     pub start_rises : (i : ℕ) → i < n → start_of first n m i ≤ start_of first n m (i + 1)
     start_rises i h =
-        let a = start_in_lem i h in
-        ⊎_elim
-        (λ (q : i + 1 < n).
-        let g = ordered (i + 1) q in
-        let no : i + 1 ≡ 0 → ⊥ = λ z. omega arith in
-        let e : least_first first (i + 1) ≡ first i = cond-false _ _ _ (ne_eqb (i + 1) 0 no) ∙ ap first {x = i + 1 - 1} {y = i} (omega arith) in
-        let b = start_in_lem (i + 1) q in
-        let l : least_first first (i + 1) ≤ first (i + 1) = g.least in
-        omega arith)
-        (λ (q : n ≤ i + 1). let b = start_end (i + 1) q in let t = first_most i h in omega arith)
-        (cases_lt (i + 1) n)
+        let t = first_most i h in
+        let g = ordered (i + 1) in
+        grind (arith, nat_tests)
 
     -- rows that are no longer than their span
     pub below_most : (rows : ℕ → List Leg) → ((i : ℕ) → i < n → length (rows i) ≤ start_of first n m (i + 1) - start_of first n m i) → (i : ℕ) → i ≤ n → length (pile rows i) ≤ start_of first n m i

@@ -1,5 +1,6 @@
 -- Faults in numbers: each case has its number and its values. A part that a refusal has no place for is 0.
-use Rattle.std.specs.Prelude.{ℕ, Some, None, Ok, Err, Option, Result}
+use Rattle.std.specs.Prelude.{ℕ, List, ◌++◌, Some, None, Ok, Err, Option, Result, codes}
+use Rattle.std.specs.Fmt.{decimal}
 use Rattle.network.specs.declared.fault.FilePart.{FilePart}
 use Rattle.network.specs.declared.fault.FilePart.TheVariants.{Size, Check, Frame, Header, NodeTable, LegTable}
 use Rattle.network.specs.declared.fault.FileFault.{FileFault}
@@ -31,6 +32,10 @@ fault part b k = record { part = part; block = b; byte = k }
 
 abbrev pub file_refusal : FileFault → FileRefusal
 file_refusal f = record { number = part_number f.part; block = f.block; byte = f.byte }
+
+-- how a refusal of a file is printed: its number, the block and the byte
+abbrev pub file_refusal_text : FileRefusal → List ℕ
+file_refusal_text r = decimal r.number ++ codes " " ++ decimal r.block ++ codes " " ++ decimal r.byte
 
 abbrev pub no_file : FileRefusal
 no_file = record { number = 0; block = 0; byte = 0 }

@@ -8,6 +8,7 @@ pub fn check_each<E, F: Fn(usize) -> Result<(), E>>(n: usize, check: F) -> Resul
     requires { (i : ℕ) → i < n → F.pre check i }
     ensures { (f : ℕ → Option E) → ((i : ℕ) (r : _) → i < n → F.post check i r → result_err r ≡ f i) → result_err result ≡ first_of f n }
 {
+    // a `for`: `try_for_each` would ask that a check may be called at any number
     for i in 0..n {
         check(i)?;
     }

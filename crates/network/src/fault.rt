@@ -1,7 +1,7 @@
 //! Why a file is refused, and why a network does not answer.
-ghost use Rattle.std.specs.Prelude.{◌≡◌};
+ghost use Rattle.std.specs.Prelude.{◌≡◌, Some};
 ghost use Rattle.std.specs.Result.{result_map_both};
-ghost use Rattle.network.specs.Refusals.{part_number, fault, network_refusal};
+ghost use Rattle.network.specs.Refusals.{part_number, fault, file_refusal, file_refusal_text, network_refusal};
 ghost use Rattle.network.specs.declared.fault.NetworkFault.TheVariants.{UnreadableRow};
 
 use std::fmt;
@@ -51,8 +51,10 @@ pub struct FileFault {
     pub byte: u16,
 }
 
+/// The number of the refusal, the block and the byte.
 impl fmt::Display for FileFault {
-    /// The number of the refusal, the block and the byte.
+    ghost output = { λ f. Some (file_refusal_text (file_refusal f)) };
+
     fn fmt<W: fmt::Write>(&self, f: &mut fmt::Formatter<W>) -> fmt::Result {
         write!(f, "{} {} {}", self.part.number(), self.block, self.byte)
     }

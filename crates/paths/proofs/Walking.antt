@@ -16,15 +16,16 @@ use Rattle.network.proofs.Facts.{leg_found}
 use Rattle.network.proofs.Legs.{leg_tells}
 use Rattle.labels.specs.Kinds.{Kind}
 use Rattle.labels.specs.declared.step.Step.{Step}
-use Rattle.paths.specs.Asking.{with_window, step_answer}
+use Rattle.std.specs.Result.{result_map_both}
+use Rattle.paths.specs.Asking.{step_answer}
 use Rattle.paths.specs.Paths.{Path, stay, go, origin, step_of, stop_at}
 use Rattle.paths.specs.Walks.{legs_taken, PathBy, NoPathBy}
 use Rattle.paths.specs.declared.stop.Stop.{Stop}
 use Rattle.paths.proofs.Legs.{leg_lawful}
 
-step_given : (N : Net) (a : Result Leg NetworkRefusal) (s : Step) → Ok s ≡ with_window N a → (g : Leg) × (Ok g ≡ a) × (s ≡ step_of N g)
+step_given : (N : Net) (a : Result Leg NetworkRefusal) (s : Step) → Ok s ≡ result_map_both (step_of N) (λ f. f) a → (g : Leg) × (Ok g ≡ a) × (s ≡ step_of N g)
 step_given N (Ok g) s e = (g, refl, cc e)
-step_given N (Err f) s e = let z : ◌≡◌ {A = ℕ} 0 1 = cc in absurd (omega arith)
+step_given N (Err f) s e = cc
 
 -- a step that was given is that along a leg of the row
 step_tells : (N : Net) (i k : ℕ) (s : Step) → Ok s ≡ step_answer N i k → (g : Leg) × (slice_get (legs_at N i) k ≡ Some g) × (s ≡ step_of N g)
@@ -35,17 +36,17 @@ step_tells N i k s e =
 
 -- where no step was given, no leg stands
 leg_missing : (N : Net) (i k : ℕ) (r : Result Step NetworkFault) → i < N.n → told r ≡ step_answer N i k → result_ok r ≡ None → slice_get (legs_at N i) k ≡ None
-leg_missing N i k (Ok s) h e o = let z : ◌≡◌ {A = ℕ} 0 1 = cc in absurd (omega arith)
+leg_missing N i k (Ok s) h e o = cc
 leg_missing N i k (Err f) h e o =
     ⊎_elim
-    (λ (q : k < length (legs_at N i)). let w = e ∙ ap (with_window N) (leg_found N i k h q) in let z : ◌≡◌ {A = ℕ} 0 1 = cc in absurd (omega arith))
+    (λ (q : k < length (legs_at N i)). let w = e ∙ ap (result_map_both (step_of N) (λ f. f)) (leg_found N i k h q) in cc)
     (λ (q : length (legs_at N i) ≤ k). slice_get_past (legs_at N i) k q)
     (cases_lt k (length (legs_at N i)))
 
 -- what a call gave is what it was told
 pub given : (r : Result Step NetworkFault) {a : Result Step NetworkRefusal} {s : Step} → told r ≡ a → result_ok r ≡ Some s → Ok s ≡ a
 given (Ok x) {s = s} e o = let q : x ≡ s = cc o in ap Ok (sym q) ∙ e
-given (Err f) e o = let z : ◌≡◌ {A = ℕ} 0 1 = cc in absurd (omega arith)
+given (Err f) e o = cc
 
 none_some : {X : Type 0} {x : X} → None ≡ Some x → ⊥
 none_some e = let z : ◌≡◌ {A = ℕ} 0 1 = cc in omega arith

@@ -8,7 +8,7 @@ ghost use Rattle.paths.specs.Asking.{step_answer};
 use labels::step::Step;
 use network::fault::NetworkFault;
 use network::network::Network;
-use network::reading::{leg_at, window_at};
+use network::reading::window_at;
 
 /// The step along leg `k` of node `i`; refused as the leg itself is.
 pub fn step_along<N: Network>(net: &N, i: u16, k: u16) -> Result<Step, NetworkFault>
@@ -25,7 +25,5 @@ pub fn step_at<N: Network>(net: &N, i: u16, k: u16) -> Step
     requires within { k < length (legs_at (N.meaning net.now) i) }
     ensures { result ≡ step_of (N.meaning net.now) (slice_index_or (legs_at (N.meaning net.now) i) k no_leg) }
 {
-    let leg = leg_at(net, i, k);
-    let window = window_at(net, leg.head);
-    Step::along(&leg, &window)
+    step_along(net, i, k).unwrap()
 }

@@ -16,7 +16,7 @@ use Rattle.image_format.proofs.Back.{encoded_long}
 use Rattle.image_format.proofs.Lawfuls.{image_lawful}
 use Rattle.image_writer.specs.Write.{unread_at, dear_at, no_room, cost_too_large, write_fault, answer_by, bytes_by, write_answer, written}
 use Rattle.image_writer.proofs.Steps.{unmapped}
-use Rattle.image_writer.proofs.Sure.{holds_all}
+use Rattle.image_writer.proofs.Sure.{holds_all, unread_first, room_next}
 use Rattle.round_trip.specs.Rewrite.{rewrite_fault, rewrite_answer, rewritten}
 
 module _ (s : List ℕ) (by : Bytes s) (e : Sound s) where
@@ -35,36 +35,24 @@ module _ (s : List ℕ) (by : Bytes s) (e : Sound s) where
     size : encoded_size (image_net s) ≡ length s
     size = sym (encoded_long (image_net s)) ∙ ap length same
 
+  -- the fault, the size and the bytes, as the unread row decides
+  by_unread : (room : ℕ) (o : Option NetworkRefusal) → first_of (unread_at (image_net s)) (nodes_in s) ≡ o → rewrite_fault s room ≡ option_or o (unless (leb (length s) room) no_room)
+  by_unread room o u = ap (λ p. option_or p (unless (leb (length s) room) no_room)) u
+
   fault_by : (room : ℕ) (o : Option NetworkRefusal) → first_of (unread_at (image_net s)) (nodes_in s) ≡ o → write_fault (image_net s) room ≡ rewrite_fault s room
-  unfolding write_fault
-  fault_by room None u =
-      ap (λ p. option_or p (option_or (first_of (dear_at (image_net s)) (nodes_in s)) (unless (leb (encoded_size (image_net s)) room) no_room))) u
-      ∙ ap (λ p. option_or p (unless (leb (encoded_size (image_net s)) room) no_room)) dear_none
-      ∙ ap (λ z. unless (leb z room) no_room) (size u)
-      ∙ sym (ap (λ p. option_or p (unless (leb (length s) room) no_room)) u)
-  fault_by room (Some f) u =
-      ap (λ p. option_or p (option_or (first_of (dear_at (image_net s)) (nodes_in s)) (unless (leb (encoded_size (image_net s)) room) no_room))) u
-      ∙ sym (ap (λ p. option_or p (unless (leb (length s) room) no_room)) u)
+  fault_by room None u = room_next (image_net s) room u dear_none ∙ ap (λ z. unless (leb z room) no_room) (size u) ∙ sym (by_unread room None u)
+  fault_by room (Some f) u = unread_first (image_net s) room f u ∙ sym (by_unread room (Some f) u)
 
-  -- the size and the bytes, where they are given
-  answer_by_lem : (o : Option NetworkRefusal) (room : ℕ) → first_of (unread_at (image_net s)) (nodes_in s) ≡ o → answer_by (rewrite_fault s room) (encoded_size (image_net s)) ≡ answer_by (rewrite_fault s room) (length s)
-  answer_by_lem None room u = ap (answer_by (rewrite_fault s room)) (size u)
-  answer_by_lem (Some f) room u =
-      let g : rewrite_fault s room ≡ Some f = ap (λ p. option_or p (unless (leb (length s) room) no_room)) u in
-      ap (λ p. answer_by p (encoded_size (image_net s))) g ∙ sym (ap (λ p. answer_by p (length s)) g)
+  size_by : (room : ℕ) (o : Option NetworkRefusal) → first_of (unread_at (image_net s)) (nodes_in s) ≡ o → answer_by (rewrite_fault s room) (encoded_size (image_net s)) ≡ answer_by (rewrite_fault s room) (length s)
+  size_by room None u = ap (answer_by (rewrite_fault s room)) (size u)
+  size_by room (Some f) u = rw (by_unread room (Some f) u)
 
-  bytes_by_lem : (o : Option NetworkRefusal) (d : List ℕ) → first_of (unread_at (image_net s)) (nodes_in s) ≡ o → bytes_by (rewrite_fault s (length d)) (encoded (image_net s)) d ≡ bytes_by (rewrite_fault s (length d)) s d
-  bytes_by_lem None d u = ap (λ z. bytes_by (rewrite_fault s (length d)) z d) (same u)
-  bytes_by_lem (Some f) d u =
-      let g : rewrite_fault s (length d) ≡ Some f = ap (λ p. option_or p (unless (leb (length s) (length d)) no_room)) u in
-      ap (λ p. bytes_by p (encoded (image_net s)) d) g ∙ sym (ap (λ p. bytes_by p s d) g)
+  image_by : (d : List ℕ) (o : Option NetworkRefusal) → first_of (unread_at (image_net s)) (nodes_in s) ≡ o → bytes_by (rewrite_fault s (length d)) (encoded (image_net s)) d ≡ bytes_by (rewrite_fault s (length d)) s d
+  image_by d None u = ap (λ z. bytes_by (rewrite_fault s (length d)) z d) (same u)
+  image_by d (Some f) u = rw (by_unread (length d) (Some f) u)
 
   pub answer_again : (d : List ℕ) → write_answer (image_net s) d ≡ rewrite_answer s d
-  answer_again d =
-      ap (λ p. answer_by p (encoded_size (image_net s))) (fault_by (length d) (first_of (unread_at (image_net s)) (nodes_in s)) refl)
-      ∙ answer_by_lem (first_of (unread_at (image_net s)) (nodes_in s)) (length d) refl
+  answer_again d = ap (λ p. answer_by p (encoded_size (image_net s))) (fault_by (length d) _ refl) ∙ size_by (length d) _ refl
 
   pub bytes_again : (d : List ℕ) → written (image_net s) d ≡ rewritten s d
-  bytes_again d =
-      ap (λ p. bytes_by p (encoded (image_net s)) d) (fault_by (length d) (first_of (unread_at (image_net s)) (nodes_in s)) refl)
-      ∙ bytes_by_lem (first_of (unread_at (image_net s)) (nodes_in s)) d refl
+  bytes_again d = ap (λ p. bytes_by p (encoded (image_net s)) d) (fault_by (length d) _ refl) ∙ image_by d _ refl

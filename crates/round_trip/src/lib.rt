@@ -31,8 +31,6 @@ pub fn copy<'a, N: Network>(
     ensures copy { MatchResult result (λ _. Same (image_net source.new.image.now) (N.meaning net.now)) (λ _. source.new ≡ source.old) }
 {
     let size = write(net, out)?;
-    match source.open(&out[0..size]) {
-        Ok(()) => Ok(size),
-        Err(_) => unreachable(),
-    }
+    source.open(&out[..size]).unwrap();
+    Ok(size)
 }

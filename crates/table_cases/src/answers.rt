@@ -1,5 +1,5 @@
 //! What the four stops answer.
-use crate::{four_nodes, leg, refused, six_legs};
+use crate::{four_nodes, leg, refused, six_legs, source_over};
 use network::fault::*;
 use network::leg::*;
 use network::network::Network;
@@ -9,8 +9,7 @@ use tables::source::TableSource;
 #[test]
 fn windows_of_four_stops(rt: HostRuntime) -> Result<(), Fail> {
     let (nodes, legs) = (four_nodes(), six_legs());
-    let mut source = TableSource::built_in();
-    source.open(&nodes, &legs, 0, 3)?;
+    let source = source_over(&nodes, &legs, 0, 3)?;
     assert_eq!(rt;
         (
             source.node_count(),
@@ -32,8 +31,7 @@ fn windows_of_four_stops(rt: HostRuntime) -> Result<(), Fail> {
 #[test]
 fn legs_of_four_stops(rt: HostRuntime) -> Result<(), Fail> {
     let (nodes, legs) = (four_nodes(), six_legs());
-    let mut source = TableSource::built_in();
-    source.open(&nodes, &legs, 0, 3)?;
+    let source = source_over(&nodes, &legs, 0, 3)?;
     for (i, k, answer) in [
         (0, 0, Ok(leg(1, 2, 4))),
         (0, 1, Ok(leg(2, 3, 1))),
@@ -79,8 +77,7 @@ fn the_built_in_source(rt: HostRuntime) -> Result<(), Fail> {
 fn a_refusal_changes_nothing(rt: HostRuntime) -> Result<(), Fail> {
     let (nodes, legs) = (four_nodes(), six_legs());
     let wrong = [leg(4, 1, 0)];
-    let mut source = TableSource::built_in();
-    source.open(&nodes, &legs, 0, 3)?;
+    let mut source = source_over(&nodes, &legs, 0, 3)?;
     assert_eq!(rt;
         source.open(&nodes, &wrong, 1, 2),
         refused(FilePart::NodeTable, 1)

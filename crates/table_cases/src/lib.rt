@@ -44,6 +44,18 @@ pub fn six_legs() -> [Leg; 6] {
     ]
 }
 
+/// The source over tables.
+pub fn source_over<'a>(
+    nodes: &'a [NodeRecord],
+    legs: &'a [Leg],
+    depot: u16,
+    sink: u16,
+) -> Result<TableSource<'a>, FileFault> {
+    let mut source = TableSource::built_in();
+    source.open(nodes, legs, depot, sink)?;
+    Ok(source)
+}
+
 /// What comes of opening tables.
 pub fn opened<'a>(
     nodes: &'a [NodeRecord],
@@ -51,8 +63,8 @@ pub fn opened<'a>(
     depot: u16,
     sink: u16,
 ) -> Result<(), FileFault> {
-    let mut source = TableSource::built_in();
-    source.open(nodes, legs, depot, sink)
+    source_over(nodes, legs, depot, sink)?;
+    Ok(())
 }
 
 /// The refusal of a record.

@@ -1,8 +1,8 @@
 -- Tables without fault hold a lawful network.
-use Rattle.std.specs.Prelude.{◌≡◌, ℕ, zero, suc, ◌+◌, ◌-◌, ◌<◌, ◌≤◌, Bool, true, ◌&&◌, List, [], ◌∷◌, length, None, slice_index_or, unsigned_abs}
+use Rattle.std.specs.Prelude.{◌≡◌, ℕ, zero, suc, ◌+◌, ◌-◌, ◌<◌, ◌≤◌, true, List, [], ◌∷◌, length, None, slice_index_or, unsigned_abs}
 use Rattle.std.proofs.Common.{sym, subst, not-suc-le-zero, le_of_eq, arith}
 use Rattle.std.specs.Option.{option_or}
-use Rattle.std.proofs.lemmas.Bool.{and_parts, leb-true, ltb-true}
+use Rattle.std.proofs.lemmas.Bool.Decides.{nat_tests}
 use Rattle.network.specs.First.{first_of}
 use Rattle.network.specs.Lawful.{Lawful, LawfulLeg, LawfulWindow}
 use Rattle.network.specs.Limits.{most_nodes, most_legs, most_reach}
@@ -28,14 +28,6 @@ largest_within (l ∷ ls) most h =
     let b = largest_within ls most (λ j q. h (suc j) (omega arith)) in
     omega arith
 
--- each of four tests that pass together
-all_four : (a b c d : Bool) → (a && (b && (c && d))) ≡ true → (a ≡ true) × (b ≡ true) × (c ≡ true) × (d ≡ true)
-all_four a b c d e =
-    let p = and_parts a _ e in
-    let q = and_parts b _ p.1 in
-    let s = and_parts c d q.1 in
-    (p.0, q.0, s.0, s.1)
-
 -- what a valid header gives
 pub record ValidHeader (n m depot sink : ℕ) : Type 0 where
   pub some : 1 ≤ n
@@ -45,10 +37,7 @@ pub record ValidHeader (n m depot sink : ℕ) : Type 0 where
   pub few : m ≤ most_legs
 
 valid_header_lem : (n m depot sink : ℕ) → valid_header n m depot sink ≡ true → ValidHeader n m depot sink
-valid_header_lem n m depot sink e =
-    let p = and_parts _ _ e in
-    let q = all_four _ _ _ _ p.1 in
-    record { some = leb-true _ _ p.0; many = leb-true _ _ q.0; depot_in = ltb-true _ _ q.1; sink_in = ltb-true _ _ q.2; few = leb-true _ _ q.3 }
+valid_header_lem n m depot sink e = grind (arith, nat_tests)
 
 -- what a valid node gives
 record ValidNode (r : NodeRecord) (least most : ℕ) : Type 0 where
@@ -57,9 +46,7 @@ record ValidNode (r : NodeRecord) (least most : ℕ) : Type 0 where
   pub most_first : r.first_leg ≤ most
 
 valid_node_lem : (r : NodeRecord) (least most : ℕ) → valid_node r least most ≡ true → ValidNode r least most
-valid_node_lem r least most e =
-    let p = all_four _ _ _ _ e in
-    record { window = record { in_order = leb-true _ _ p.0; ends = leb-true _ _ p.1 }; least_first = leb-true _ _ p.2; most_first = leb-true _ _ p.3 }
+valid_node_lem r least most e = grind (arith, nat_tests)
 
 -- what a valid leg gives: it is lawful in every reach that its cost is within, and its cost keeps the limit
 record ValidLeg (l : Leg) (n : ℕ) : Type 0 where
@@ -67,12 +54,7 @@ record ValidLeg (l : Leg) (n : ℕ) : Type 0 where
   pub near : unsigned_abs l.cost ≤ most_reach
 
 valid_leg_lem : (l : Leg) (n : ℕ) → valid_leg l n ≡ true → ValidLeg l n
-valid_leg_lem l n e =
-    let p = all_four _ _ _ _ e in
-    record {
-      lawful = λ reach h. record { head_in = ltb-true _ _ p.0; lasts = leb-true _ _ p.1; ends = leb-true _ _ p.2; in_reach = h };
-      near = leb-true _ _ p.3;
-    }
+valid_leg_lem l n e = grind (arith, nat_tests)
 
 module _ (nodes : List NodeRecord) (legs : List Leg) (depot sink : ℕ) (sound : Sound nodes legs depot sink) where
   -- no part has a fault

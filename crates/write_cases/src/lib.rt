@@ -1,6 +1,8 @@
 //! Tests of writing by example: what is written, what is refused, and what a buffer holds then.
 #![tactic(auto)]
 
+ghost use Rattle.std.specs.Prelude.{◌≤◌};
+
 #[cfg(test)]
 mod tests {
     use image::source::ImageSource;
@@ -11,116 +13,87 @@ mod tests {
     use network::network::Network;
     use round_trip::{copy, rewrite};
     use std::test::Fail;
+    use table_cases::{leg, node, source_over};
     use tables::record::NodeRecord;
-    use tables::source::TableSource;
 
-    static NODES: [NodeRecord; 3] = [
-        NodeRecord {
-            opens: 0,
-            closes: 9,
-            first_leg: 0,
-        },
-        NodeRecord {
-            opens: 1,
-            closes: 8,
-            first_leg: 1,
-        },
-        NodeRecord {
-            opens: 2,
-            closes: 7,
-            first_leg: 2,
-        },
-    ];
+    fn nodes() -> [NodeRecord; 3] {
+        [node(0, 9, 0), node(1, 8, 1), node(2, 7, 2)]
+    }
 
     // Legs 0 to 1, 1 to 2 and 2 to 0 at these costs.
     fn legs(a: i32, b: i32, c: i32) -> [Leg; 3] {
-        [
-            Leg {
-                head: 1,
-                duration: 3,
-                cost: a,
-            },
-            Leg {
-                head: 2,
-                duration: 4,
-                cost: b,
-            },
-            Leg {
-                head: 0,
-                duration: 5,
-                cost: c,
-            },
-        ]
+        [leg(1, 3, a), leg(2, 4, b), leg(0, 5, c)]
     }
 
-    // What writing that network answers, into a buffer of sevens, and whether the buffer still is one.
-    fn attempt(a: i32, b: i32, c: i32, room: usize) -> Option<(Result<usize, WriteFault>, bool)> {
-        let legs = legs(a, b, c);
-        let mut source = TableSource::built_in();
-        if source.open(&NODES, &legs, 0, 2).is_err() || room > 2048 {
-            return None;
-        }
+    // What writing that network at these costs answers, into a buffer of sevens, and whether the buffer still is one.
+    fn attempt(
+        a: i32,
+        b: i32,
+        c: i32,
+        room: usize,
+    ) -> Result<(Result<usize, WriteFault>, bool), FileFault>
+        requires { room ≤ 2048 }
+    {
+        let (nodes, legs) = (nodes(), legs(a, b, c));
+        let source = source_over(&nodes, &legs, 0, 2)?;
         let mut buffer = [7u8; 2048];
-        let answer = write(&source, &mut buffer[0..room]);
-        Some((answer, buffer == [7u8; 2048]))
+        let answer = write(&source, &mut buffer[..room]);
+        Ok((answer, buffer == [7u8; 2048]))
     }
 
     #[test]
-    fn costs_at_the_limit_are_written(rt: HostRuntime) {
+    fn costs_at_the_limit_are_written(rt: HostRuntime) -> Result<(), Fail> {
         assert_eq!(rt;
-            attempt(10_000_000, -10_000_000, 0, 2048),
-            Some((Ok(1536), false))
+            attempt(10_000_000, -10_000_000, 0, 2048)?,
+            (Ok(1536), false)
         );
+        Ok(())
     }
 
     #[test]
-    fn lowest_node_with_a_large_cost(rt: HostRuntime) {
+    fn lowest_node_with_a_large_cost(rt: HostRuntime) -> Result<(), Fail> {
         let large = Err(WriteFault::CostTooLarge { node: 1 });
-        assert_eq!(rt;
-            attempt(0, 10_000_001, -10_000_001, 2048),
-            Some((large, true))
-        );
+        assert_eq!(rt; attempt(0, 10_000_001, -10_000_001, 2048)?, (large, true));
+        Ok(())
     }
 
     #[test]
-    fn large_cost_comes_before_short_buffer(rt: HostRuntime) {
+    fn large_cost_comes_before_short_buffer(rt: HostRuntime) -> Result<(), Fail> {
         let large = Err(WriteFault::CostTooLarge { node: 2 });
-        assert_eq!(rt; attempt(0, 0, -10_000_001, 0), Some((large, true)));
+        assert_eq!(rt; attempt(0, 0, -10_000_001, 0)?, (large, true));
+        Ok(())
     }
 
     #[test]
-    fn short_buffer(rt: HostRuntime) {
-        assert_eq!(rt;
-            attempt(1, 2, 3, 1535),
-            Some((Err(WriteFault::NoRoom), true))
-        );
-        assert_eq!(rt; attempt(1, 2, 3, 1536), Some((Ok(1536), false)));
+    fn short_buffer(rt: HostRuntime) -> Result<(), Fail> {
+        assert_eq!(rt; attempt(1, 2, 3, 1535)?, (Err(WriteFault::NoRoom), true));
+        assert_eq!(rt; attempt(1, 2, 3, 1536)?, (Ok(1536), false));
+        Ok(())
     }
 
     #[test]
-    fn bytes_beyond_the_image_stay(rt: HostRuntime) {
-        let legs = legs(1, 2, 3);
-        let mut source = TableSource::built_in();
-        assert!(rt; source.open(&NODES, &legs, 0, 2).is_ok());
+    fn bytes_beyond_the_image_stay(rt: HostRuntime) -> Result<(), Fail> {
+        let (nodes, legs) = (nodes(), legs(1, 2, 3));
+        let source = source_over(&nodes, &legs, 0, 2)?;
         let mut buffer = [7u8; 1600];
-        assert!(rt; write(&source, &mut buffer).is_ok());
+        write(&source, &mut buffer)?;
         assert!(rt; buffer[1536] == 7 && buffer[1599] == 7);
+        Ok(())
     }
 
     #[test]
     fn copy_reads_back(rt: HostRuntime) -> Result<(), Fail> {
-        let legs = legs(1, 2, 3);
-        let mut source = TableSource::built_in();
-        assert!(rt; source.open(&NODES, &legs, 1, 2).is_ok());
+        let (nodes, legs) = (nodes(), legs(1, 2, 3));
+        let source = source_over(&nodes, &legs, 1, 2)?;
         let mut buffer = [0u8; 1536];
         let mut copied = ImageSource::built_in();
-        assert!(rt; copy(&source, &mut buffer, &mut copied).is_ok());
-        assert!(rt; copied.node_count() == 3 && copied.depot() == 1 && copied.sink() == 2);
-        let Ok(window) = copied.window(2) else {
-            return Err(Fail::new("no window"));
-        };
+        copy(&source, &mut buffer, &mut copied)?;
         assert_eq!(rt;
-            window,
+            (copied.node_count(), copied.depot(), copied.sink()),
+            (3, 1, 2)
+        );
+        assert_eq!(rt;
+            copied.window(2)?,
             Window {
                 opens: 2,
                 closes: 7,
@@ -129,46 +102,40 @@ mod tests {
         Ok(())
     }
 
-    // The sample network's image with byte `at` set to `value`.
-    fn damaged(at: usize, value: u8) -> [u8; 1536] {
-        let legs = legs(1, 2, 3);
-        let mut source = TableSource::built_in();
+    // The sample network's image.
+    fn image() -> Result<[u8; 1536], Fail> {
+        let (nodes, legs) = (nodes(), legs(1, 2, 3));
+        let source = source_over(&nodes, &legs, 0, 2)?;
         let mut image = [0u8; 1536];
-        if source.open(&NODES, &legs, 0, 2).is_ok() {
-            let _ = write(&source, &mut image);
-        }
-        if at < 1536 {
-            image[at] = value;
-        }
-        image
+        write(&source, &mut image)?;
+        Ok(image)
     }
 
     #[test]
-    fn unreadable_row_is_not_written(rt: HostRuntime) {
-        let image = damaged(1100, 1);
+    fn unreadable_row_is_not_written(rt: HostRuntime) -> Result<(), Fail> {
+        let mut image = image()?;
+        image[1100] = 1;
         let mut source = ImageSource::built_in();
-        assert!(rt; source.open(&image).is_ok());
+        source.open(&image)?;
         let mut buffer = [7u8; 1536];
-        let below = FileFault {
-            part: FilePart::Check,
-            block: 2,
-            byte: 508,
-        };
+        let below = FilePart::Check.at(2, 508);
         let unread = NetworkFault::UnreadableRow { node: 0, below };
         assert_eq!(rt;
             rewrite(&source, &mut buffer),
             Err(WriteFault::Network(unread))
         );
         assert!(rt; buffer == [7u8; 1536]);
+        Ok(())
     }
 
     #[test]
-    fn opened_image_is_written_again(rt: HostRuntime) {
-        let image = damaged(1536, 0);
+    fn opened_image_is_written_again(rt: HostRuntime) -> Result<(), Fail> {
+        let image = image()?;
         let mut source = ImageSource::built_in();
-        assert!(rt; source.open(&image).is_ok());
+        source.open(&image)?;
         let mut buffer = [7u8; 1536];
         assert_eq!(rt; rewrite(&source, &mut buffer), Ok(1536));
         assert!(rt; buffer == image);
+        Ok(())
     }
 }

@@ -1,29 +1,23 @@
-use Rattle.std.proofs.Common.{◌≡◌, ◌<◌, true, false, length, set, ◌∙◌, arith, rules}
-use Rattle.agendas.specs.Timeds.{sooner}
-use Rattle.agendas.specs.Heaps.{at, up}
-use Rattle.agendas.proofs.Steps.{rise_step, rise_ends, swap_at, swap_same}
+use Rattle.std.proofs.Common.{rules, arith}
+use Rattle.std.proofs.lemmas.List.Sorted.{IsPermutation-trans}
+use Rattle.agendas.proofs.Steps.{rise_step, rise_ends}
+use Rattle.agendas.proofs.Piles.{sooner_ranks}
 use Rattle.agendas.proofs.heap.rise.Goals as goal
 
-pub returns-then-not-is_sooner : goal.returns-then-not-is_sooner
-returns-then-not-is_sooner c =
-    let t = c.loop-i.t in
-    let i = c.loop-i.i in
-    let n = c.args.n in
-    let e : sooner (at t i) (at t (up i)) ≡ false = search rules in
-    record { heap = rise_ends (at t) (at t) n i c.loop-i.invariant.1 e; same = c.loop-i.invariant.2; len = c.loop-i.auto.t }
+pub loop-p-preserved : goal.loop-p-preserved
+loop-p-preserved c =
+    let l = c.loop-p in
+    let s = c.swap.ensures in
+    let up = c.in-Some in
+    record {
+      within = omega arith;
+      below = rise_step sooner_ranks l.heap c.swap.new.self l.i up.p s.len s.by_index l.invariant.within up.ensures (search rules) l.invariant.below;
+      same = IsPermutation-trans _ _ _ l.invariant.same s.permutation;
+      len = omega arith;
+    }
 
-pub loop-i-preserved : goal.loop-i-preserved
-loop-i-preserved c =
-    let t = c.loop-i.t in
-    let i = c.loop-i.i in
-    let n = c.args.n in
-    let e : sooner (at t i) (at t (up i)) ≡ true = search rules in
-    let pi : 0 < i = omega arith in
-    let li : i < length t = omega arith in
-    let lp : up i < length t = omega arith in
-    let ne : i ≡ up i → ⊥ = λ q. omega arith in
-    let t' = set (set t i (at t (up i))) (up i) (at t i) in
-    let s = swap_at t i (up i) li lp ne in
-    let in' : i < n = c.loop-i.invariant.0 in
-    let pn : up i < n = omega arith in
-    (pn, rise_step (at t) (at t') n i pi in' c.loop-i.invariant.1 e s, λ f. swap_same t i (up i) li lp ne n in' pn f ∙ c.loop-i.invariant.2 f)
+pub returns-else-lt-clause-heap : goal.returns-else-lt-clause-heap
+returns-else-lt-clause-heap c =
+    let l = c.loop-p in
+    let up = c.in-Some in
+    rise_ends sooner_ranks l.heap l.i up.p up.ensures (search rules) l.invariant.below

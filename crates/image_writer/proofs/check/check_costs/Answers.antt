@@ -1,15 +1,12 @@
-use Rattle.std.proofs.Common.{sym, arith}
-use Rattle.network.proofs.Firsts.{first_more, first_here}
-use Rattle.image_writer.specs.Write.{dear_at}
-use Rattle.image_writer.proofs.Steps.{dear_none, dear_some}
+use Rattle.std.proofs.Common.{ap, ◌∙◌, rules}
+use Rattle.std.specs.Option.{option_map}
+use Rattle.network.specs.First.{first_of}
+use Rattle.image_writer.specs.Write.{dear_at, dear_fault, write_refusal}
+use Rattle.image_writer.proofs.Steps.{first_dear}
 use Rattle.image_writer.proofs.check.check_costs.Goals as goal
 
-pub returns-then-not-holds_row : goal.returns-then-not-holds_row
-returns-then-not-holds_row g c =
+pub returns : goal.returns
+returns g c =
     let N = g.N.Network.meaning c.args.net.now in
-    sym (first_here (dear_at N) c.loop-i.i N.n _ (omega arith) c.loop-i.invariant (dear_some N c.loop-i.i c.if-not-holds_row.ensures))
-
-pub loop-i-preserved : goal.loop-i-preserved
-loop-i-preserved g c =
-    let N = g.N.Network.meaning c.args.net.now in
-    first_more (dear_at N) c.loop-i.i c.loop-i.invariant (dear_none N c.loop-i.i c.if-not-holds_row.ensures)
+    ap (option_map write_refusal) (c.check_each.ensures (dear_fault N) (λ i r h p. search rules))
+    ∙ first_dear N c.node_count.result ∙ ap (first_of (dear_at N)) c.node_count.ensures

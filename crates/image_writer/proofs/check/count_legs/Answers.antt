@@ -1,38 +1,23 @@
-use Rattle.std.proofs.Common.{◌≡◌, ◌<◌, Ok, ap, ◌∙◌, arith}
+use Rattle.std.proofs.Common.{◌≡◌, ◌<◌, arith}
 use Rattle.std.proofs.lemmas.Result.{err_from_is_err_and}
 use Rattle.network.proofs.Facts.{length_tells, refusal_tells}
 use Rattle.image_format.specs.Encode.{first_of_node}
-use Rattle.image_format.proofs.Back.{first_next}
-use Rattle.image_writer.proofs.Steps.{total_fits, row_read, row_unread, rows_read}
+use Rattle.image_writer.proofs.Steps.{total_fits, row_unread}
 use Rattle.image_writer.proofs.check.count_legs.Goals as goal
 
-pub returns-in_err-len : goal.returns-in_err-len
-returns-in_err-len g c =
+pub returns-in_err-row_len : goal.returns-in_err-row_len
+returns-in_err-row_len g c =
     let N = g.N.Network.meaning c.args.net.now in
     let p = err_from_is_err_and c.from_residual.result c.from_residual.ensures.1 in
     let h : c.loop-i.i < N.n = omega arith in
-    let e = refusal_tells N c.loop-i.i _ h c.in_err-len.ensures in
+    let e = refusal_tells N c.loop-i.i _ h c.in_err-row_len.ensures in
     rw (p.1, p.2) (row_unread N c.loop-i.i _ h e c.loop-i.invariant.0)
 
 pub overflow_add-total : goal.overflow_add-total
 overflow_add-total g c =
     let N = g.N.Network.meaning c.args.net.now in
     let h : c.loop-i.i < N.n = omega arith in
-    let t = length_tells N c.loop-i.i c.in_ok-len.len h c.in_ok-len.ensures in
+    let t = length_tells N c.loop-i.i c.in_ok-row_len.field-0 h c.in_ok-row_len.ensures in
     let f = total_fits N c.loop-i.i (g.N.Network.lawful c.args.net.now) h in
     let e : c.loop-i.total ≡ first_of_node N c.loop-i.i = c.loop-i.invariant.1 in
     record { fits = omega (arith, t.1) }
-
-pub loop-i-preserved : goal.loop-i-preserved
-loop-i-preserved g c =
-    let N = g.N.Network.meaning c.args.net.now in
-    let h : c.loop-i.i < N.n = omega arith in
-    let t = length_tells N c.loop-i.i c.in_ok-len.len h c.in_ok-len.ensures in
-    let e : c.loop-i.total ≡ first_of_node N c.loop-i.i = c.loop-i.invariant.1 in
-    let n = first_next N c.loop-i.i in
-    (row_read N c.loop-i.i t.0 c.loop-i.invariant.0, omega (arith, t.1))
-
-pub returns : goal.returns
-returns g c =
-    let N = g.N.Network.meaning c.args.net.now in
-    ap Ok c.loop-i.invariant.1 ∙ rows_read N c.loop-i.i (omega arith) (omega arith) c.loop-i.invariant.0

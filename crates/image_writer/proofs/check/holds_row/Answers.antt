@@ -1,22 +1,13 @@
-use Rattle.std.proofs.Common.{◌<◌, length, sym, ap, ◌∙◌, arith}
-use Rattle.network.specs.Meaning.{legs_at}
+use Rattle.std.proofs.Common.{◌≡◌, rules}
+use Rattle.std.proofs.lemmas.Iterator.Search.{all_from_yields_List}
+use Rattle.std.proofs.lemmas.Iterator.Consumers.{YieldsList-from_first}
+use Rattle.network.specs.Meaning.{legs_left}
 use Rattle.image_writer.specs.Write.{holds_leg}
-use Rattle.image_writer.proofs.Steps.{holds_more, holds_not, holds_all}
 use Rattle.image_writer.proofs.check.holds_row.Goals as goal
-
-pub returns-then-not-holds_leg : goal.returns-then-not-holds_leg
-returns-then-not-holds_leg g c =
-    let ls = legs_at (g.N.Network.meaning c.args.net.now) c.args.i in
-    let h : c.loop-k.k < length ls = omega arith in
-    holds_not ls c.loop-k.k _ h (ap holds_leg (sym c.leg_at.ensures) ∙ sym c.if-not-holds_leg.ensures) c.loop-k.invariant
-
-pub loop-k-preserved : goal.loop-k-preserved
-loop-k-preserved g c =
-    let ls = legs_at (g.N.Network.meaning c.args.net.now) c.args.i in
-    let h : c.loop-k.k < length ls = omega arith in
-    holds_more ls c.loop-k.k _ h (ap holds_leg (sym c.leg_at.ensures) ∙ sym c.if-not-holds_leg.ensures) c.loop-k.invariant
 
 pub returns : goal.returns
 returns g c =
-    let ls = legs_at (g.N.Network.meaning c.args.net.now) c.args.i in
-    holds_all ls c.loop-k.k _ (omega arith) c.loop-k.invariant
+    let M = g.N.Network.meaning in
+    let l = c.legs_from.result in
+    let e : legs_left (M l.net.now) l.node l.next ≡ legs_left (M c.args.net.now) c.args.node 0 = cc in
+    all_from_yields_List holds_leg c.all.new.self _ _ c.all.ensures.ran (YieldsList-from_first (λ x. x) (λ s. legs_left (M s.net.now) s.node s.next) {s = l} _ e) (λ x b q k. search rules)
