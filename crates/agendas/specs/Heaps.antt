@@ -11,7 +11,7 @@ at t k = slice_index_or t k no_entry
 abbrev pub up : ℕ → ℕ
 up k = (k - 1) / 2
 
--- by an order, of the first n that f has
+-- of what stands at the first n places of f, by an order
 module _ {X : Type 0} (sooner : X → X → Bool) (f : ℕ → X) (n : ℕ) where
   -- none is sooner than the one above it
   abbrev pub Heap : Type 0

@@ -33,7 +33,7 @@ impl<'a> FirstIn<'a> {
         }
     }
 
-    /// The place behind `k` entries.
+    /// The place `k` places after the first, going on at the table's start.
     fn place(&self, k: usize) -> usize
         requires { k < length self.now.table.now }
         ensures within { result < length self.now.table.now }

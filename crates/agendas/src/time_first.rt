@@ -42,7 +42,7 @@ impl<'a> Agenda for TimeFirst<'a> {
 
     ghost limit = { held_room };
 
-    // As in FirstIn, line for line: a struct that both hold would pass each call on, and save none.
+    // `waiting` and `capacity` are those of `FirstIn`: a struct in both would only have its calls passed on.
     fn waiting(&self) -> usize {
         self.count
     }

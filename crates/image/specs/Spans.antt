@@ -16,7 +16,7 @@ pub record IsSpan (image : List ℕ) (i from to : ℕ) : Type 0 where
   pub within : to ≤ legs_in image
   pub few : legs_in image ≤ most_legs
 
--- what asks for the row of node i is refused so
+-- the questions about the row of node i are refused with r
 pub record IsRefused (image : List ℕ) (i : ℕ) (r : NetworkRefusal) : Type 0 where
   pub length : Err r ≡ length_answer (image_net image) i
   pub leg : (k : ℕ) → Err r ≡ leg_answer (image_net image) i k

@@ -45,8 +45,8 @@ impl ImageSource<'_> {
     }
 
     /// Judges the leg blocks that hold a leg from `from` to before `to`.
+    // Two numbers: where a `&Range` is captured, the closure's `requires` gets no proof.
     #[tactic(auto, unfolding(image_format::specs::Decode::span_fault))]
-    // Two numbers: with a `&Range<usize>` what the closure asks found no proof.
     fn readable(&self, from: usize, to: usize) -> Result<(), FileFault>
         requires { to ≤ legs_in self.now.image.now }
         ensures { result_err result ≡ span_fault self.now.image.now from to }

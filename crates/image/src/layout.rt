@@ -31,7 +31,7 @@ pub(crate) fn leg_in(bytes: &[u8]) -> Leg
     }
 }
 
-/// An image that is as long as the nodes and legs that its header counts.
+/// An image whose length fits the nodes and legs that its header counts.
 #[derive(Clone, Copy)]
 pub(crate) struct Layout<'a> {
     pub(crate) image: &'a [u8],

@@ -34,7 +34,7 @@ fn holds_leg(l: Leg) -> bool
     l.cost.unsigned_abs() <= MAX_COST
 }
 
-// And the costs of a row.
+// Whether an image can hold every cost of a row.
 fn holds_row<N: Network>(net: &N, node: u16) -> bool
     ensures { result ≡ holds_legs (legs_left (N.meaning net.now) node 0) }
 {

@@ -8,8 +8,8 @@ use crate::records::leg_record;
 use crate::table::Record;
 use network::network::Network;
 
-/// The records of a network's legs, row by row, from a leg of a node on.
-// A `flat_map` over the rows would hold a closure, and at such an iterator no ghost value is read.
+/// The records of a network's legs, row by row, from leg `leg` of node `node` on.
+// Not a `flat_map` over the rows: it holds a closure, and then `Table::put` gets no value for its `ghost f`.
 #[derive(Drop)]
 pub(crate) struct LegRecords<'a, N: Network> {
     net: &'a N,

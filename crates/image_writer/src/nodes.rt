@@ -8,7 +8,7 @@ use crate::records::node_record;
 use crate::table::Record;
 use network::network::Network;
 
-/// The records of a network's nodes from one on, and the number of its first leg.
+/// The records of a network's nodes from node `node` on, whose first leg is leg `first` of all.
 #[derive(Drop)]
 pub(crate) struct NodeRecords<'a, N: Network> {
     net: &'a N,

@@ -49,7 +49,7 @@ impl<L: Label> LabelTable<'_, L> {
         ensures rows { self.new.rows.now ≡ map (lowered L.kind node label.now) (take self.old.entered self.old.rows.now) ++ drop self.old.entered self.old.rows.now }
     {
         let rows = &mut *self.rows;
-        // by number: a rule of the project (docs/DECISIONS.md)
+        // by number: a form that the project asks for (docs/DECISIONS.md)
         for i in 0..self.entered as usize {
             rows[i] = rows[i].lowered(node, label);
         }

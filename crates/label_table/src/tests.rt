@@ -63,7 +63,8 @@ fn consider_all<N: Network, L: Label, A: Agenda>(
     table.consider(net, agenda, from, 0..end)
 }
 
-/// What comes of the five legs of node 0, or of a node without legs: how many are entered, and the answer.
+/// What comes of all legs of a node, where node 0 has five, node 1 none, and there is no other: how many are entered, and
+/// the answer.
 fn considered(
     rows: &mut [Row<Plain>],
     waiting: &mut [u16],

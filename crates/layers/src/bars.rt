@@ -15,7 +15,6 @@ use network::row::legs_from;
 /// The most pairs that are barred.
 pub const MAX_PAIRS: u16 = 256;
 
-// The places for them.
 const PLACES: usize = MAX_PAIRS as usize;
 
 /// Pairs of nodes of the network below, each once: every leg from the first to the second of a pair is left out.

@@ -8,7 +8,7 @@ pub struct Draft<L> {
 }
 
 /// A layer that stays as it is, and answers as a network.
-// Each layer hands four questions on by itself: a trait that does it for every layer would be longer than the twelve lines.
+// Both layers hand node count, depot, sink and windows on: a trait for all layers would take more lines than these take twice.
 #[derive(Drop)]
 pub struct Sealed<L> {
     pub(crate) layer: L,
