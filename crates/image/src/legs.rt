@@ -9,7 +9,7 @@ use crate::judge::{judge_block, unless};
 use crate::layout::{Layout, leg_in};
 use blocks::block::{Block, block_of};
 use blocks::bytes::le16;
-use blocks::table::{WIDTH, blocks_for, in_block, record_of};
+use blocks::table::{WIDTH, blocks_for, in_block, record_of, record_start};
 use image_format::{BlockKind, MAX_COST};
 use network::fault::{FileFault, FilePart};
 use network::limits::MAX_TIME;
@@ -28,7 +28,7 @@ impl Layout<'_> {
         let record = record_of(block, WIDTH, r);
         let leg = leg_in(record);
         let part = FilePart::LegTable;
-        let byte = (4 + WIDTH * r) as u16;
+        let byte = record_start(WIDTH, r) as u16;
         unless(leg.head < self.nodes, part.at(number, byte))?;
         unless(le16(record, 2) == 0, part.at(number, byte + 2))?;
         unless(
