@@ -1,14 +1,14 @@
 //! Where nodes and legs stand in an image.
 ghost use Rattle.std.specs.Prelude.{◌≡◌, ℕ, ◌+◌, ◌*◌, ◌<◌, ◌≤◌, length};
 ghost use Rattle.network.specs.Limits.{most_nodes, most_legs};
-ghost use Rattle.blocks.specs.Tables.{blocks_for};
 ghost use Rattle.image_format.specs.Layout.{nodes_in, legs_in, start};
 ghost use Rattle.image_format.specs.Judge.{block_count};
 ghost use Rattle.image_format.specs.Decode.{leg_at, leg_in_record};
 ghost use Rattle.image.specs.Nodes.{node_at};
 
 use blocks::bytes::{le16, le32, signed32};
-use blocks::table::{PER_BLOCK, WIDTH, blocks_for, record_at};
+use blocks::table::{PER_BLOCK, WIDTH, record_at};
+use image_format::leg_base;
 use network::leg::{Leg, Window};
 use std::ops::Range;
 
@@ -80,18 +80,11 @@ impl Layout<'_> {
         self.row_start(i)..self.row_start(i + 1)
     }
 
-    /// The number of the first leg block.
-    pub(crate) fn leg_base(&self) -> usize
-        ensures { result ≡ 1 + blocks_for 42 self.now.nodes }
-    {
-        1 + blocks_for(self.nodes as usize)
-    }
-
     /// Leg `j` of the image.
     pub(crate) fn leg(&self, j: usize) -> Leg
         requires { j < self.now.legs }
         ensures { result ≡ leg_at self.now.image.now j }
     {
-        leg_in(record_at(self.image, WIDTH, PER_BLOCK, self.leg_base(), j))
+        leg_in(record_at(self.image, WIDTH, PER_BLOCK, leg_base(self.nodes), j))
     }
 }

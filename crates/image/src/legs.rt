@@ -10,7 +10,7 @@ use crate::layout::{Layout, leg_in};
 use blocks::block::{Block, block_of};
 use blocks::bytes::le16;
 use blocks::table::{WIDTH, blocks_for, in_block, record_of, record_start};
-use image_format::{BlockKind, MAX_COST};
+use image_format::{BlockKind, MAX_COST, leg_base};
 use network::fault::{FileFault, FilePart};
 use network::limits::MAX_TIME;
 use std::array;
@@ -47,7 +47,7 @@ impl Layout<'_> {
         requires { k < blocks_for 42 self.now.legs }
         ensures { result_err result ≡ leg_block_fault_at self.now.image.now k }
     {
-        let number = self.leg_base() + k;
+        let number = leg_base(self.nodes) + k;
         let block = block_of(self.image, number);
         let count = in_block(self.legs as usize, k);
         judge_block(block, BlockKind::Legs, number as u16, count, |r| {
