@@ -104,6 +104,7 @@ impl Layout<'_> {
         )
     }
 
+    /// Judges node block `k`, counted from 0.
     #[tactic(auto, unfolding(image_format::specs::Judge::node_block_fault))]
     fn judge_node_block(&self, k: usize) -> Result<(), FileFault>
         requires { k < blocks_for 42 self.now.nodes }
@@ -117,6 +118,7 @@ impl Layout<'_> {
         })
     }
 
+    /// Judges the node blocks.
     fn judge_nodes(&self) -> Result<(), FileFault>
         ensures { result_err result ≡ first_of (node_block_fault self.now.image.now self.now.nodes self.now.legs) (blocks_for 42 self.now.nodes) }
     {

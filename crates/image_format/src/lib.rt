@@ -12,6 +12,7 @@ use blocks::table::blocks_for;
 use network::fault::FilePart;
 
 pub mod header;
+pub mod records;
 
 /// The kinds of blocks, and the numbers that stand for them in a block.
 #[derive(Clone, Copy, PartialEq, Eq, Debug)]

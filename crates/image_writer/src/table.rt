@@ -8,9 +8,7 @@ ghost use Rattle.image_writer.specs.Order.{GivesFrom};
 use blocks::block::{BLOCK_LEN, Block, finish, start};
 use blocks::table::{WIDTH, blocks_for, in_block, record_start};
 use image_format::BlockKind;
-
-/// The bytes of a record.
-pub(crate) type Record = [u8; WIDTH];
+use image_format::records::Record;
 
 /// A table of an image: the kind of its blocks, the number of the first, and how many records there are.
 #[derive(Drop)]
@@ -22,7 +20,7 @@ pub(crate) struct Table {
 }
 
 impl Table {
-    // Block `k`, which holds the next records.
+    /// Block `k`, which holds the next records.
     fn block<I: Iterator<Item = Record>>(&self, k: usize, records: &mut I) -> Block
         ghost f: { ℕ → List ℕ }
         requires within { k < blocks_for 42 self.now.records }

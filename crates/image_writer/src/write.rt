@@ -14,6 +14,7 @@ use image_format::header::Header;
 use image_format::{BlockKind, image_len, leg_base};
 use network::network::Network;
 
+/// Writes the image of a network with this header.
 fn put_image<N: Network>(net: &N, header: Header, out: &mut [u8])
     requires header { header ≡ header_of (N.meaning net.now) }
     requires room { encoded_size (N.meaning net.now) ≤ length out.old }
