@@ -55,19 +55,19 @@ pub fn put16(out: &mut [u8], at: usize, x: u16)
     requires { at + 2 ≤ length out.old }
     ensures { out.new ≡ over out.old at (bytes16 x) }
 {
-    put(out, at, x.to_le_bytes());
+    put(out, at, u16::to_le_bytes(x));
 }
 
 pub fn put32(out: &mut [u8], at: usize, x: u32)
     requires { at + 4 ≤ length out.old }
     ensures { out.new ≡ over out.old at (bytes32 x) }
 {
-    put(out, at, x.to_le_bytes());
+    put(out, at, u32::to_le_bytes(x));
 }
 
 pub fn put_signed32(out: &mut [u8], at: usize, x: i32)
     requires { at + 4 ≤ length out.old }
     ensures { out.new ≡ over out.old at (bytes_z x) }
 {
-    put(out, at, x.to_le_bytes());
+    put(out, at, i32::to_le_bytes(x));
 }

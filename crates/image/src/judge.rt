@@ -1,9 +1,9 @@
 //! What opening an image judges: its length, its header and its node blocks.
 ghost use Rattle.std.specs.Prelude.{◌≡◌, ℕ, ◌+◌, ◌*◌, ◌/◌, ◌<◌, ◌≤◌, length, IfOk, Option};
 ghost use Rattle.std.specs.Result.{result_err};
-ghost use Rattle.network.specs.First.{unless, first_of};
+ghost use Rattle.network.specs.First.{first_of};
 ghost use Rattle.network.specs.declared.fault.FileFault.{FileFault};
-ghost use Rattle.network.specs.Rows.{least_first, most_first};
+ghost use Rattle.network.specs.Rows.{least_first};
 ghost use Rattle.blocks.specs.Tables.{blocks_for, in_block};
 ghost use Rattle.image_format.specs.Layout.{first_leg_of, header_in};
 ghost use Rattle.image_format.specs.Judge.{judge as judgement, header_fault, node_fault_at, node_block_fault, table_block_fault};
@@ -13,16 +13,10 @@ use blocks::block::{BLOCK_LEN, Block, block_of, frame, unused};
 use blocks::table::{PER_BLOCK, WIDTH, blocks_for, in_block, record_start};
 use image_format::header::Header;
 use image_format::{BlockKind, image_len};
-use network::each::check_each;
+use network::each::{check_each, unless};
 use network::fault::{FileFault, FilePart};
 use network::limits::{MAX_LEGS, MAX_NODES, MAX_TIME};
-
-/// Refuses with a fault unless a test holds.
-pub(crate) fn unless(holds: bool, fault: FileFault) -> Result<(), FileFault>
-    ensures { result_err result ≡ unless holds fault }
-{
-    if holds { Ok(()) } else { Err(fault) }
-}
+use network::rows::most_first;
 
 /// Judges what a header block holds, and answers it.
 fn judge_header(block: &Block) -> Result<Header, FileFault>
@@ -39,13 +33,6 @@ fn judge_header(block: &Block) -> Result<Header, FileFault>
     unless(header.legs <= MAX_LEGS, FilePart::Header.at(0, 10))?;
     unused(block, 14, FilePart::Header, 0)?;
     Ok(header)
-}
-
-/// The most that the first leg of node `i` may be.
-fn most_first(legs: u32, i: usize) -> u32
-    ensures { result ≡ most_first legs i }
-{
-    if i == 0 { 0 } else { legs }
 }
 
 /// Judges a block of a table: its frame, each of its records, and that nothing stands after them.

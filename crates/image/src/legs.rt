@@ -5,13 +5,14 @@ ghost use Rattle.blocks.specs.Tables.{blocks_for};
 ghost use Rattle.image_format.specs.Judge.{leg_fault_in, leg_block_fault_at};
 ghost use Rattle.image.specs.Marks.{Marked};
 
-use crate::judge::{judge_block, unless};
+use crate::judge::judge_block;
 use crate::layout::Layout;
 use blocks::block::{Block, block_of};
 use blocks::bytes::le16;
 use blocks::table::{WIDTH, blocks_for, in_block, record_of, record_start};
 use image_format::records::leg_in;
 use image_format::{BlockKind, MAX_COST, leg_base};
+use network::each::unless;
 use network::fault::{FileFault, FilePart};
 use network::limits::MAX_TIME;
 use std::array;

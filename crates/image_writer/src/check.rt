@@ -9,7 +9,7 @@ ghost use Rattle.image_writer.specs.Write.{count_answer, holds_leg, holds_legs, 
 
 use crate::fault::WriteFault;
 use image_format::MAX_COST;
-use network::each::check_each;
+use network::each::{check_each, unless};
 use network::fault::NetworkFault;
 use network::leg::Leg;
 use network::network::Network;
@@ -46,11 +46,7 @@ fn check_row<N: Network>(net: &N, node: u16) -> Result<(), WriteFault>
     requires { node < (N.meaning net.now).n }
     ensures { result_err result ≡ dear_fault (N.meaning net.now) node }
 {
-    if holds_row(net, node) {
-        Ok(())
-    } else {
-        Err(WriteFault::CostTooLarge { node })
-    }
+    unless(holds_row(net, node), WriteFault::CostTooLarge { node })
 }
 
 /// Refuses at the lowest node with a cost that an image cannot hold.
