@@ -13,6 +13,7 @@ use crate::fault::AgendaFault;
 pub struct FirstIn<'a> {
     table: &'a mut [u16],
     first: usize,
+    /// how many places are used: the table is the caller's, so this stands beside it
     count: usize,
     ghost sound: { (count ≤ room_for (length table.now)) × (first ≤ length table.now) },
 }
@@ -49,7 +50,7 @@ impl<'a> FirstIn<'a> {
 }
 
 #[tactic(auto, using(crate::proofs::Rings::rings))]
-impl<'a> Agenda for FirstIn<'a> {
+impl Agenda for FirstIn<'_> {
     ghost use Rattle.std.specs.Prelude.{◌≡◌};
     ghost use Rattle.agendas.specs.Bags.{PutSays, TakeSays};
     ghost use Rattle.agendas.specs.Queues.{queue, queue_room, QueuePut, QueueTake};
@@ -78,7 +79,7 @@ impl<'a> Agenda for FirstIn<'a> {
         let count = self.count;
         let end = self.place(count);
         self.table[end] = entry;
-        self.count = count + 1;
+        self.count += 1;
         Ok(())
     }
 

@@ -14,6 +14,7 @@ use crate::timed::Timed;
 #[derive(Drop)]
 pub struct TimeFirst<'a> {
     table: &'a mut [Timed],
+    /// how many places are used: the table is the caller's, so this stands beside it
     count: usize,
     ghost sound: { count ≤ room_for (length table.now) },
     ghost heaped: { Heap sooner (at table.now) count },
@@ -32,7 +33,7 @@ impl<'a> TimeFirst<'a> {
     }
 }
 
-impl<'a> Agenda for TimeFirst<'a> {
+impl Agenda for TimeFirst<'_> {
     ghost use Rattle.std.specs.Prelude.{◌≡◌};
     ghost use Rattle.agendas.specs.Bags.{PutSays, TakeSays};
     ghost use Rattle.agendas.specs.Timeds.{timed, TimedPut, TimedTake};

@@ -12,7 +12,7 @@ pub struct Timed {
     pub entry: u16,
 }
 
-/// Whether an entry comes before another.
+/// Whether an entry comes before another: it pins what the derived order is, for readers.
 pub fn is_sooner(x: &Timed, y: &Timed) -> bool
     ensures { result ≡ sooner x.now y.now }
 {

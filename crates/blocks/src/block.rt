@@ -7,9 +7,10 @@ use crate::bytes::{le16, put16};
 use crate::check::Check;
 use network::fault::{FileFault, FilePart};
 
-/// How many bytes a block has, and where its check stands.
+/// How many bytes a block has.
 pub const BLOCK_LEN: usize = 512;
 
+/// Where the check of a block stands: its last four bytes.
 pub const CHECK_AT: usize = 508;
 
 /// The bytes of a block.

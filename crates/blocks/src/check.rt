@@ -7,13 +7,14 @@ use crate::block::{Block, CHECK_AT};
 use crate::bytes::{le16, put16};
 
 /// The two sums of a check.
-#[derive(Clone, Copy, PartialEq)]
+#[derive(Clone, Copy, PartialEq, Eq)]
 pub struct Check {
     pub plain: u16,
     pub weighted: u16,
 }
 
-const MODULUS: u32 = 65521;
+/// What both sums are taken modulo: the largest prime below 2^16.
+const MODULUS: u32 = 65_521;
 
 impl Check {
     /// The check that a block should have.

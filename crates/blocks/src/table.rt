@@ -4,10 +4,14 @@ ghost use Rattle.blocks.specs.Tables.{TablesStand, blocks_for, in_block, record_
 
 use crate::block::{Block, block_of};
 
-/// How many records a block holds, and how many bytes each takes.
+/// How many records a block holds.
 pub const PER_BLOCK: usize = 42;
 
+/// How many bytes a record takes.
 pub const WIDTH: usize = 12;
+
+/// Where the records of a block begin: after its kind, zero byte and number.
+const RECORDS_AT: usize = 4;
 
 /// How many blocks `n` records take.
 pub fn blocks_for(n: usize) -> usize
@@ -24,6 +28,14 @@ pub fn in_block(n: usize, k: usize) -> usize
     (n - PER_BLOCK * k).min(PER_BLOCK)
 }
 
+/// Where record `r` of a block of records of `width` bytes begins.
+pub fn record_start(width: usize, r: usize) -> usize
+    requires { 4 + width * r ≤ 512 }
+    ensures { result ≡ 4 + width * r }
+{
+    RECORDS_AT + width * r
+}
+
 /// Record `r` of a block of records of `width` bytes.
 #[tactic(auto, unfolding(crate::specs::Tables::record_of))]
 pub fn record_of(block: &Block, width: usize, r: usize) -> &[u8]
@@ -31,7 +43,7 @@ pub fn record_of(block: &Block, width: usize, r: usize) -> &[u8]
     ensures value { result.now ≡ record_of width block.now r }
     ensures len { length result.now ≡ width }
 {
-    let at = 4 + width * r;
+    let at = record_start(width, r);
     &block[at..at + width]
 }
 

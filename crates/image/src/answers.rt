@@ -14,7 +14,7 @@ use crate::source::ImageSource;
 use blocks::table::{PER_BLOCK, blocks_for};
 use image_format::MAX_COST;
 use network::each::check_each;
-use network::fault::{FileFault, NetworkFault, met_at};
+use network::fault::{FileFault, NetworkFault, known, met_at};
 use network::leg::{Leg, Window};
 use network::network::Network;
 use std::ops::Range;
@@ -62,9 +62,7 @@ impl ImageSource<'_> {
         ensures { MatchResult result (λ row. IsSpan self.now.image.now i row.start row.end) (λ f. IsRefused self.now.image.now i (network_refusal f)) }
     {
         let layout = self.layout();
-        if i >= layout.nodes {
-            return Err(NetworkFault::NoNode { node: i });
-        }
+        known(i, layout.nodes)?;
         let row = layout.row(i as usize);
         met_at(self.readable(row.start, row.end), i)?;
         Ok(row)
@@ -94,9 +92,7 @@ impl Network for ImageSource<'_> {
 
     fn window(&self, i: u16) -> Result<Window, NetworkFault> {
         let layout = self.layout();
-        if i >= layout.nodes {
-            return Err(NetworkFault::NoNode { node: i });
-        }
+        known(i, layout.nodes)?;
         Ok(layout.node(i as usize).window)
     }
 

@@ -1,31 +1,27 @@
 //! What opening an image judges: its length, its header and its node blocks.
 ghost use Rattle.std.specs.Prelude.{◌≡◌, ℕ, ◌+◌, ◌*◌, ◌/◌, ◌<◌, ◌≤◌, length, IfOk, Option};
 ghost use Rattle.std.specs.Result.{result_err};
-ghost use Rattle.network.specs.First.{unless, first_of};
+ghost use Rattle.network.specs.First.{first_of};
 ghost use Rattle.network.specs.declared.fault.FileFault.{FileFault};
-ghost use Rattle.network.specs.Rows.{least_first, most_first};
+ghost use Rattle.network.specs.Rows.{least_first};
 ghost use Rattle.blocks.specs.Tables.{blocks_for, in_block};
 ghost use Rattle.image_format.specs.Layout.{first_leg_of, header_in};
 ghost use Rattle.image_format.specs.Judge.{judge as judgement, header_fault, node_fault_at, node_block_fault, table_block_fault};
 
 use crate::layout::Layout;
 use blocks::block::{BLOCK_LEN, Block, block_of, frame, unused};
-use blocks::table::{PER_BLOCK, WIDTH, blocks_for, in_block};
+use blocks::table::{PER_BLOCK, WIDTH, blocks_for, in_block, record_start};
 use image_format::header::Header;
 use image_format::{BlockKind, image_len};
-use network::each::check_each;
+use network::each::{check_each, unless};
 use network::fault::{FileFault, FilePart};
 use network::limits::{MAX_LEGS, MAX_NODES, MAX_TIME};
+use network::rows::most_first;
 
-/// Refuses with a fault unless a test holds.
-pub(crate) fn unless(holds: bool, fault: FileFault) -> Result<(), FileFault>
-    ensures { result_err result ≡ unless holds fault }
-{
-    if holds { Ok(()) } else { Err(fault) }
-}
-
-fn judge_header(block: &Block) -> Result<(), FileFault>
-    ensures { result_err result ≡ header_fault block.now }
+/// Judges what a header block holds, and answers it.
+fn judge_header(block: &Block) -> Result<Header, FileFault>
+    ensures fault { result_err result ≡ header_fault block.now }
+    ensures header { IfOk result (λ h. h ≡ header_in block.now) }
 {
     let header = Header::stored_in(block);
     unless(
@@ -35,14 +31,8 @@ fn judge_header(block: &Block) -> Result<(), FileFault>
     unless(header.depot < header.nodes, FilePart::Header.at(0, 6))?;
     unless(header.sink < header.nodes, FilePart::Header.at(0, 8))?;
     unless(header.legs <= MAX_LEGS, FilePart::Header.at(0, 10))?;
-    unused(block, 14, FilePart::Header, 0)
-}
-
-/// The most that the first leg of node `i` may be.
-fn most_first(legs: u32, i: usize) -> u32
-    ensures { result ≡ most_first legs i }
-{
-    if i == 0 { 0 } else { legs }
+    unused(block, 14, FilePart::Header, 0)?;
+    Ok(header)
 }
 
 /// Judges a block of a table: its frame, each of its records, and that nothing stands after them.
@@ -59,7 +49,7 @@ pub(crate) fn judge_block<F: Fn(usize) -> Result<(), FileFault>>(
 {
     frame(block, kind as u8, number)?;
     check_each(count, judge_record)?;
-    unused(block, 4 + WIDTH * count, kind.part(), number)
+    unused(block, record_start(WIDTH, count), kind.part(), number)
 }
 
 impl Layout<'_> {
@@ -89,7 +79,7 @@ impl Layout<'_> {
         let high = most_first(self.legs, i);
         let part = FilePart::NodeTable;
         let block = (1 + k) as u16;
-        let byte = (4 + WIDTH * r) as u16;
+        let byte = record_start(WIDTH, r) as u16;
         unless(hours.opens <= MAX_TIME, part.at(block, byte))?;
         unless(
             hours.opens <= hours.closes && hours.closes <= MAX_TIME,
@@ -101,6 +91,7 @@ impl Layout<'_> {
         )
     }
 
+    /// Judges node block `k`, counted from 0.
     #[tactic(auto, unfolding(image_format::specs::Judge::node_block_fault))]
     fn judge_node_block(&self, k: usize) -> Result<(), FileFault>
         requires { k < blocks_for 42 self.now.nodes }
@@ -114,6 +105,7 @@ impl Layout<'_> {
         })
     }
 
+    /// Judges the node blocks.
     fn judge_nodes(&self) -> Result<(), FileFault>
         ensures { result_err result ≡ first_of (node_block_fault self.now.image.now self.now.nodes self.now.legs) (blocks_for 42 self.now.nodes) }
     {
@@ -134,8 +126,7 @@ pub(crate) fn judged(image: &[u8]) -> Result<Layout<'_>, FileFault>
     unless(!image.is_empty() && image.len() % BLOCK_LEN == 0, size)?;
     let top = block_of(image, 0);
     frame(top, BlockKind::Header as u8, 0)?;
-    judge_header(top)?;
-    let Header { nodes, legs, .. } = Header::stored_in(top);
+    let Header { nodes, legs, .. } = judge_header(top)?;
     unless(image.len() == image_len(nodes, legs), size)?;
     let layout = Layout { image, nodes, legs };
     layout.judge_nodes()?;

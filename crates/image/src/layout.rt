@@ -1,35 +1,16 @@
 //! Where nodes and legs stand in an image.
 ghost use Rattle.std.specs.Prelude.{◌≡◌, ℕ, ◌+◌, ◌*◌, ◌<◌, ◌≤◌, length};
 ghost use Rattle.network.specs.Limits.{most_nodes, most_legs};
-ghost use Rattle.blocks.specs.Tables.{blocks_for};
 ghost use Rattle.image_format.specs.Layout.{nodes_in, legs_in, start};
 ghost use Rattle.image_format.specs.Judge.{block_count};
-ghost use Rattle.image_format.specs.Decode.{leg_at, leg_in_record};
+ghost use Rattle.image_format.specs.Decode.{leg_at};
 ghost use Rattle.image.specs.Nodes.{node_at};
 
-use blocks::bytes::{le16, le32, signed32};
-use blocks::table::{PER_BLOCK, WIDTH, blocks_for, record_at};
-use network::leg::{Leg, Window};
+use blocks::table::{PER_BLOCK, WIDTH, record_at};
+use image_format::leg_base;
+use image_format::records::{NodeRecord, leg_in};
+use network::leg::Leg;
 use std::ops::Range;
-
-/// A node: its opening hours, and where its row begins among the legs.
-#[derive(Clone, Copy)]
-pub(crate) struct NodeRecord {
-    pub(crate) window: Window,
-    pub(crate) first_leg: u32,
-}
-
-/// The leg that a record holds.
-pub(crate) fn leg_in(bytes: &[u8]) -> Leg
-    requires { length bytes.now ≡ 12 }
-    ensures { result ≡ leg_in_record bytes.now }
-{
-    Leg {
-        head: le16(bytes, 0),
-        duration: le32(bytes, 4),
-        cost: signed32(bytes, 8),
-    }
-}
 
 /// An image whose length fits the nodes and legs that its header counts.
 #[derive(Clone, Copy)]
@@ -50,14 +31,7 @@ impl Layout<'_> {
         requires { i < self.now.nodes }
         ensures { result ≡ node_at self.now.image.now i }
     {
-        let record = record_at(self.image, WIDTH, PER_BLOCK, 1, i);
-        NodeRecord {
-            window: Window {
-                opens: le32(record, 0),
-                closes: le32(record, 4),
-            },
-            first_leg: le32(record, 8),
-        }
+        NodeRecord::stored_in(record_at(self.image, WIDTH, PER_BLOCK, 1, i))
     }
 
     /// Where the row of node `i` starts among the legs, and the row before it ends.
@@ -80,18 +54,11 @@ impl Layout<'_> {
         self.row_start(i)..self.row_start(i + 1)
     }
 
-    /// The number of the first leg block.
-    pub(crate) fn leg_base(&self) -> usize
-        ensures { result ≡ 1 + blocks_for 42 self.now.nodes }
-    {
-        1 + blocks_for(self.nodes as usize)
-    }
-
     /// Leg `j` of the image.
     pub(crate) fn leg(&self, j: usize) -> Leg
         requires { j < self.now.legs }
         ensures { result ≡ leg_at self.now.image.now j }
     {
-        leg_in(record_at(self.image, WIDTH, PER_BLOCK, self.leg_base(), j))
+        leg_in(record_at(self.image, WIDTH, PER_BLOCK, leg_base(self.nodes), j))
     }
 }

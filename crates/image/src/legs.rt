@@ -5,12 +5,14 @@ ghost use Rattle.blocks.specs.Tables.{blocks_for};
 ghost use Rattle.image_format.specs.Judge.{leg_fault_in, leg_block_fault_at};
 ghost use Rattle.image.specs.Marks.{Marked};
 
-use crate::judge::{judge_block, unless};
-use crate::layout::{Layout, leg_in};
+use crate::judge::judge_block;
+use crate::layout::Layout;
 use blocks::block::{Block, block_of};
 use blocks::bytes::le16;
-use blocks::table::{WIDTH, blocks_for, in_block, record_of};
-use image_format::{BlockKind, MAX_COST};
+use blocks::table::{WIDTH, blocks_for, in_block, record_of, record_start};
+use image_format::records::leg_in;
+use image_format::{BlockKind, MAX_COST, leg_base};
+use network::each::unless;
 use network::fault::{FileFault, FilePart};
 use network::limits::MAX_TIME;
 use std::array;
@@ -28,7 +30,7 @@ impl Layout<'_> {
         let record = record_of(block, WIDTH, r);
         let leg = leg_in(record);
         let part = FilePart::LegTable;
-        let byte = (4 + WIDTH * r) as u16;
+        let byte = record_start(WIDTH, r) as u16;
         unless(leg.head < self.nodes, part.at(number, byte))?;
         unless(le16(record, 2) == 0, part.at(number, byte + 2))?;
         unless(
@@ -47,7 +49,7 @@ impl Layout<'_> {
         requires { k < blocks_for 42 self.now.legs }
         ensures { result_err result ≡ leg_block_fault_at self.now.image.now k }
     {
-        let number = self.leg_base() + k;
+        let number = leg_base(self.nodes) + k;
         let block = block_of(self.image, number);
         let count = in_block(self.legs as usize, k);
         judge_block(block, BlockKind::Legs, number as u16, count, |r| {

@@ -7,20 +7,16 @@ use table_cases::{four_nodes, leg, node, six_legs, source_over};
 use tables::record::NodeRecord;
 
 /// The image of tables.
-fn image_of<'a>(
+fn image_of(
     heap: Global,
-    nodes: &'a [NodeRecord],
-    legs: &'a [Leg],
+    nodes: &[NodeRecord],
+    legs: &[Leg],
     depot: u16,
     sink: u16,
 ) -> anyhow::Result<Vec<u8>> {
-    let Ok(source) = source_over(nodes, legs, depot, sink) else {
-        return Err(anyhow!("tables refused"));
-    };
+    let source = source_over(nodes, legs, depot, sink).map_err(|_| anyhow!("tables refused"))?;
     let mut image = vec![in heap; 0u8; 4096]?;
-    let Ok(size) = write(&source, image.as_mut_slice()) else {
-        return Err(anyhow!("not written"));
-    };
+    let size = write(&source, image.as_mut_slice()).map_err(|_| anyhow!("not written"))?;
     image.truncate(size);
     Ok(image)
 }

@@ -4,9 +4,7 @@ use blocks::block::BLOCK_LEN;
 use blocks::check::Check;
 
 fn set(image: &mut [u8], at: usize, value: u8) -> anyhow::Result<()> {
-    let Some(byte) = image.get_mut(at) else {
-        return Err(anyhow!("no such byte"));
-    };
+    let byte = image.get_mut(at).ok_or_else(|| anyhow!("no such byte"))?;
     *byte = value;
     Ok(())
 }
@@ -14,9 +12,7 @@ fn set(image: &mut [u8], at: usize, value: u8) -> anyhow::Result<()> {
 /// Puts the check of block `b` right.
 fn fit(image: &mut [u8], b: usize) -> anyhow::Result<()> {
     let (blocks, _) = image.as_chunks_mut::<BLOCK_LEN>();
-    let Some(block) = blocks.get_mut(b) else {
-        return Err(anyhow!("no such block"));
-    };
+    let block = blocks.get_mut(b).ok_or_else(|| anyhow!("no such block"))?;
     Check::of(block).store_in(block);
     Ok(())
 }

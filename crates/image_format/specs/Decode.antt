@@ -8,12 +8,16 @@ use Rattle.network.specs.declared.leg.Leg.{Leg}
 use Rattle.network.specs.declared.leg.Window.{Window}
 use Rattle.blocks.specs.Numbers.{u16_at, u32_at, i32_at}
 use Rattle.blocks.specs.Tables.{blocks_for}
+use Rattle.image_format.specs.declared.records.NodeRecord.{NodeRecord}
 use Rattle.image_format.specs.Layout.{nodes_in, depot_in_image, sink_in_image, node_record, start, leg_record, most_cost}
 use Rattle.image_format.specs.Judge.{leg_block_fault_at}
 
 -- what a record holds
 abbrev pub window_in : List ℕ → Window
 window_in t = record { opens = u32_at t 0; closes = u32_at t 4 }
+
+abbrev pub node_in_record : List ℕ → NodeRecord
+node_in_record t = record { window = window_in t; first_leg = u32_at t 8 }
 
 abbrev pub leg_in_record : List ℕ → Leg
 leg_in_record t = record { head = u16_at t 0; duration = u32_at t 4; cost = i32_at t 8 }

@@ -9,7 +9,7 @@ ghost use Rattle.image_writer.specs.Write.{count_answer, holds_leg, holds_legs, 
 
 use crate::fault::WriteFault;
 use image_format::MAX_COST;
-use network::each::check_each;
+use network::each::{check_each, unless};
 use network::fault::NetworkFault;
 use network::leg::Leg;
 use network::network::Network;
@@ -27,30 +27,26 @@ pub(crate) fn count_legs<N: Network>(net: &N) -> Result<u32, NetworkFault>
     Ok(total)
 }
 
-// Whether an image can hold the cost of a leg.
+/// Whether an image can hold the cost of a leg.
 fn holds_leg(l: Leg) -> bool
     ensures { result ≡ holds_leg l }
 {
     l.cost.unsigned_abs() <= MAX_COST
 }
 
-// Whether an image can hold every cost of a row.
+/// Whether an image can hold every cost of a row.
 fn holds_row<N: Network>(net: &N, node: u16) -> bool
     ensures { result ≡ holds_legs (legs_left (N.meaning net.now) node 0) }
 {
     legs_from(net, node, 0).all(holds_leg)
 }
 
-// Refuses a node with a cost that an image cannot hold.
+/// Refuses a node with a cost that an image cannot hold.
 fn check_row<N: Network>(net: &N, node: u16) -> Result<(), WriteFault>
     requires { node < (N.meaning net.now).n }
     ensures { result_err result ≡ dear_fault (N.meaning net.now) node }
 {
-    if holds_row(net, node) {
-        Ok(())
-    } else {
-        Err(WriteFault::CostTooLarge { node })
-    }
+    unless(holds_row(net, node), WriteFault::CostTooLarge { node })
 }
 
 /// Refuses at the lowest node with a cost that an image cannot hold.

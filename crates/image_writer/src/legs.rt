@@ -4,8 +4,7 @@ ghost use Rattle.std.specs.Iterator.{YieldsFirst, item_count};
 ghost use Rattle.network.specs.Meaning.{legs_at};
 ghost use Rattle.image_writer.specs.Write.{leg_records_from};
 
-use crate::records::leg_record;
-use crate::table::Record;
+use image_format::records::{Record, leg_bytes};
 use network::network::Network;
 
 /// The records of a network's legs, row by row, from leg `leg` of node `node` on.
@@ -33,7 +32,7 @@ impl<'a, N: Network> LegRecords<'a, N> {
     }
 }
 
-impl<'a, N: Network> Iterator for LegRecords<'a, N> {
+impl<N: Network> Iterator for LegRecords<'_, N> {
     type Item = Record;
 
     ghost next_gives = { YieldsFirst (λ s. leg_records_from (N.Network.meaning s.net.now) s.node s.leg) };
@@ -44,7 +43,7 @@ impl<'a, N: Network> Iterator for LegRecords<'a, N> {
         while self.node < self.net.node_count() {
             if let Ok(leg) = self.net.leg(self.node, self.leg) {
                 self.leg += 1;
-                return Some(leg_record(leg));
+                return Some(leg_bytes(leg));
             }
             self.node += 1;
             self.leg = 0;

@@ -5,6 +5,5 @@ mod check;
 pub mod fault;
 mod legs;
 mod nodes;
-mod records;
 mod table;
 pub mod write;

@@ -4,8 +4,7 @@ ghost use Rattle.std.specs.Iterator.{YieldsFirst, at_most};
 ghost use Rattle.image_format.specs.Encode.{first_of_node};
 ghost use Rattle.image_writer.specs.Write.{node_records_from};
 
-use crate::records::node_record;
-use crate::table::Record;
+use image_format::records::{NodeRecord, Record};
 use network::network::Network;
 
 /// The records of a network's nodes from node `node` on, whose first leg is leg `first` of all.
@@ -31,7 +30,7 @@ impl<'a, N: Network> NodeRecords<'a, N> {
     }
 }
 
-impl<'a, N: Network> Iterator for NodeRecords<'a, N> {
+impl<N: Network> Iterator for NodeRecords<'_, N> {
     type Item = Record;
 
     ghost next_gives = { YieldsFirst (λ s. node_records_from (N.Network.meaning s.net.now) s.node) };
@@ -40,9 +39,12 @@ impl<'a, N: Network> Iterator for NodeRecords<'a, N> {
 
     fn next(&mut self) -> Option<Record> {
         let window = self.net.window(self.node).ok()?;
-        let record = node_record(window, self.first);
+        let node = NodeRecord {
+            window,
+            first_leg: self.first,
+        };
         self.first += u32::from(self.net.row_len(self.node).unwrap_or(0));
         self.node += 1;
-        Some(record)
+        Some(node.bytes())
     }
 }

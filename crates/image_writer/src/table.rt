@@ -6,11 +6,9 @@ ghost use Rattle.image_format.specs.Layout.{kind_number};
 ghost use Rattle.image_writer.specs.Order.{GivesFrom};
 
 use blocks::block::{BLOCK_LEN, Block, finish, start};
-use blocks::table::{WIDTH, blocks_for, in_block};
+use blocks::table::{WIDTH, blocks_for, in_block, record_start};
 use image_format::BlockKind;
-
-/// The bytes of a record.
-pub(crate) type Record = [u8; WIDTH];
+use image_format::records::Record;
 
 /// A table of an image: the kind of its blocks, the number of the first, and how many records there are.
 #[derive(Drop)]
@@ -22,7 +20,7 @@ pub(crate) struct Table {
 }
 
 impl Table {
-    // Block `k`, which holds the next records.
+    /// Block `k`, which holds the next records.
     fn block<I: Iterator<Item = Record>>(&self, k: usize, records: &mut I) -> Block
         ghost f: { ℕ → List ℕ }
         requires within { k < blocks_for 42 self.now.records }
@@ -35,10 +33,10 @@ impl Table {
         let count = in_block(self.records, k);
         // By number, as what is written through `chunks_exact_mut` is not known afterwards; the blocks below likewise.
         for r in 0..count {
-            let at = 4 + WIDTH * r;
+            let at = record_start(WIDTH, r);
             block[at..at + WIDTH].copy_from_slice(&records.next().unwrap());
         }
-        finish(&mut block, 4 + WIDTH * count);
+        finish(&mut block, record_start(WIDTH, count));
         block
     }
 

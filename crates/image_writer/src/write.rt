@@ -10,11 +10,11 @@ use crate::fault::WriteFault;
 use crate::legs::LegRecords;
 use crate::nodes::NodeRecords;
 use crate::table::Table;
-use blocks::table::blocks_for;
 use image_format::header::Header;
-use image_format::{BlockKind, image_len};
+use image_format::{BlockKind, image_len, leg_base};
 use network::network::Network;
 
+/// Writes the image of a network with this header.
 fn put_image<N: Network>(net: &N, header: Header, out: &mut [u8])
     requires header { header ≡ header_of (N.meaning net.now) }
     requires room { encoded_size (N.meaning net.now) ≤ length out.old }
@@ -27,7 +27,7 @@ fn put_image<N: Network>(net: &N, header: Header, out: &mut [u8])
     };
     let legs = Table {
         kind: BlockKind::Legs,
-        base: 1 + blocks_for(nodes.records),
+        base: leg_base(header.nodes),
         records: header.legs as usize,
     };
     header.store_in(out.first_chunk_mut().unwrap());

@@ -87,6 +87,7 @@ impl<L: Label> LabelTable<'_, L> {
         ensures keeps { A.limit agenda.new ≡ A.limit agenda.old }
     {
         let len = self.rows.len();
+        // left from inside the scan of the rows: a form that the project asks for (docs/DECISIONS.md)
         'legs: for k in legs {
             let Some(new) = from.row_along(net, k) else {
                 continue 'legs;

@@ -1,7 +1,7 @@
 //! Considering by example.
-use crate::fault::*;
-use crate::row::*;
-use crate::table::*;
+use crate::fault::{Cause, RunFault};
+use crate::row::Row;
+use crate::table::{Departure, LabelTable};
 use agendas::agenda::Agenda;
 use agendas::first_in::FirstIn;
 use labels::label::Label;

@@ -86,10 +86,7 @@ fn check_row<N: Network>(rt: &impl Abort, net: &N, i: u16, legs: &[Leg]) -> Resu
 
 /// Bars the first `count` pairs that leave node 0.
 fn bar_many<N: Network>(draft: &mut Draft<Bars<N>>, count: u16) -> Result<(), LayerFault> {
-    for j in 0..count {
-        draft.bar(0, j)?;
-    }
-    Ok(())
+    (0..count).try_for_each(|j| draft.bar(0, j))
 }
 
 /// A price at node 2 of the four stops, which takes the place of an earlier one.
@@ -177,13 +174,18 @@ fn unreadable<N: Network + Drop>(rt: &impl Abort, net: N) -> Result<(), Fail> {
     Ok(())
 }
 
+/// Prices and bars over the four stops, alone and in piles.
+fn layered<N: Network>(rt: &impl Abort, net: &N, reach: u32) -> Result<(), Fail> {
+    priced(rt, net, reach)?;
+    barred(rt, net, reach)?;
+    price_bar_price(rt, net, reach)?;
+    bar_price_bar(rt, net, reach)
+}
+
 #[test]
 fn over_an_image(rt: HostRuntime) -> Result<(), Fail> {
     let image = image_of_stops();
-    priced(&rt, image_source(&image)?, 10_000_000)?;
-    barred(&rt, image_source(&image)?, 10_000_000)?;
-    price_bar_price(&rt, image_source(&image)?, 10_000_000)?;
-    bar_price_bar(&rt, image_source(&image)?, 10_000_000)
+    layered(&rt, &image_source(&image)?, 10_000_000)
 }
 
 #[test]
@@ -196,11 +198,7 @@ fn over_a_damaged_image(rt: HostRuntime) -> Result<(), Fail> {
 #[test]
 fn over_tables(rt: HostRuntime) -> Result<(), Fail> {
     let (nodes, legs) = (four_nodes(), six_legs());
-    let source = source_over(&nodes, &legs, 0, 3)?;
-    priced(&rt, source, 4)?;
-    barred(&rt, source, 4)?;
-    price_bar_price(&rt, source, 4)?;
-    bar_price_bar(&rt, source, 4)
+    layered(&rt, &source_over(&nodes, &legs, 0, 3)?, 4)
 }
 
 #[test]

@@ -3,6 +3,7 @@ ghost use Rattle.std.specs.Prelude.{◌≡◌, Some, Ok};
 ghost use Rattle.network.specs.Answers.{if_node};
 ghost use Rattle.layers.specs.Refusals.{layer_refusal, layer_refusal_text, told};
 
+use network::each::unless;
 use network::network::Network;
 use std::fmt;
 
@@ -54,8 +55,5 @@ impl fmt::Display for LayerFault {
 pub(crate) fn known<N: Network>(net: &N, node: u16) -> Result<(), LayerFault>
     ensures { told result ≡ if_node (N.meaning net.now) node (Ok tt) }
 {
-    if node >= net.node_count() {
-        return Err(LayerFault::NoNode { node });
-    }
-    Ok(())
+    unless(node < net.node_count(), LayerFault::NoNode { node })
 }

@@ -5,5 +5,5 @@ use listing::{list, with_source};
 use std::io;
 
 fn main(rt: HostRuntime) -> io::Result<()> {
-    with_source(&rt, rt.alloc(), |net| list(&rt, &net))
+    with_source(&rt, |net| list(&rt, &net))
 }

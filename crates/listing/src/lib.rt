@@ -15,15 +15,17 @@ use std::io;
 use std::io::Read;
 
 /// The most bytes of an image that are read.
-pub const LIMIT: usize = 61_440;
+pub const MAX_INPUT: usize = 61_440;
 
 /// What standard input holds, or nothing where that is more than the limit.
 pub fn input(rt: &HostRuntime, heap: Global) -> io::Result<Option<Vec<u8>>>
     ensures { IfOk result (λ o. IfSome o (λ v. vec_len v ≤ 61440)) }
 {
     let mut bytes = Vec::new(heap);
-    rt.stdin().take(LIMIT as u64 + 1).read_to_end(&mut bytes)?;
-    if bytes.len() > LIMIT {
+    rt.stdin()
+        .take(MAX_INPUT as u64 + 1)
+        .read_to_end(&mut bytes)?;
+    if bytes.len() > MAX_INPUT {
         return Ok(None);
     }
     Ok(Some(bytes))
@@ -37,12 +39,11 @@ pub fn refuse<F: Display + Drop>(rt: &HostRuntime, fault: F) -> io::Result<()> {
 /// Opens the image that standard input holds and hands its source over, or prints its refusal.
 pub fn with_source<F: FnOnce(ImageSource) -> io::Result<()> + Drop>(
     rt: &HostRuntime,
-    heap: Global,
     then: F,
 ) -> io::Result<()>
     requires { F.IsAlwaysCallable then }
 {
-    let Some(image) = input(rt, heap)? else {
+    let Some(image) = input(rt, rt.alloc())? else {
         return refuse(rt, FilePart::Size.at(0, 0));
     };
     let mut source = ImageSource::built_in();

@@ -1,9 +1,10 @@
 //! Why a file is refused, and why a network does not answer.
-ghost use Rattle.std.specs.Prelude.{◌≡◌, Some};
+ghost use Rattle.std.specs.Prelude.{◌≡◌, cond, nat_lt, Some, Ok, Err};
 ghost use Rattle.std.specs.Result.{result_map_both};
 ghost use Rattle.network.specs.Refusals.{part_number, fault, file_refusal, file_refusal_text, network_refusal};
-ghost use Rattle.network.specs.declared.fault.NetworkFault.TheVariants.{UnreadableRow};
+ghost use Rattle.network.specs.declared.fault.NetworkFault.TheVariants.{NoNode, UnreadableRow};
 
+use crate::each::unless;
 use std::fmt;
 
 /// The part of a file that is wrong.
@@ -79,6 +80,13 @@ impl NetworkFault {
             NetworkFault::UnreadableRow { .. } => 9,
         }
     }
+}
+
+/// Refuses a node that is not among `n` nodes.
+pub fn known(i: u16, n: u16) -> Result<(), NetworkFault>
+    ensures { result ≡ cond (nat_lt i n) (Ok tt) (Err (NoNode i)) }
+{
+    unless(i < n, NetworkFault::NoNode { node: i })
 }
 
 /// A fault of what lies below, and the place where it was met: the node or the entry that was asked about.

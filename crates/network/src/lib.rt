@@ -10,3 +10,4 @@ pub mod limits;
 pub mod network;
 pub mod reading;
 pub mod row;
+pub mod rows;

@@ -20,7 +20,7 @@ fn layered<N: Network + Drop>(net: N) -> Result<Sealed<Bars<Sealed<Prices<N>>>>,
 }
 
 fn main(rt: HostRuntime) -> io::Result<()> {
-    with_source(&rt, rt.alloc(), |net| match layered(net) {
+    with_source(&rt, |net| match layered(net) {
         Ok(net) => list(&rt, &net),
         Err(fault) => refuse(&rt, fault),
     })

@@ -11,7 +11,7 @@ ghost use Rattle.network.specs.Refusals.{told};
 ghost use Rattle.ring.specs.Ring.{WithinLimits, next_stop, ring_net};
 ghost use Rattle.ring.specs.Lawful.{ring_lawful};
 
-use network::fault::NetworkFault;
+use network::fault::{NetworkFault, known};
 use network::leg::{Leg, Window};
 use network::limits::{MAX_NODES, MAX_REACH, MAX_TIME};
 use network::network::Network;
@@ -48,17 +48,6 @@ impl Ring {
         }
     }
 
-    /// Refuses a stop that is not in the ring.
-    fn known(&self, i: u16) -> Result<(), NetworkFault>
-        ensures { told result ≡ if_node (ring_net self.now.stops self.now.minutes self.now.cost) i (Ok tt) }
-    {
-        if i < self.stops {
-            Ok(())
-        } else {
-            Err(NetworkFault::NoNode { node: i })
-        }
-    }
-
     /// The stop after stop `i`.
     fn next(&self, i: u16) -> u16
         requires { i < self.now.stops }
@@ -90,7 +79,7 @@ impl Network for Ring {
     }
 
     fn window(&self, i: u16) -> Result<Window, NetworkFault> {
-        self.known(i)?;
+        known(i, self.stops)?;
         Ok(Window {
             opens: 0,
             closes: MAX_TIME,
@@ -98,12 +87,12 @@ impl Network for Ring {
     }
 
     fn row_len(&self, i: u16) -> Result<u16, NetworkFault> {
-        self.known(i)?;
+        known(i, self.stops)?;
         Ok(1)
     }
 
     fn leg(&self, i: u16, k: u16) -> Result<Leg, NetworkFault> {
-        self.known(i)?;
+        known(i, self.stops)?;
         if k > 0 {
             return Err(NetworkFault::NoLeg { node: i });
         }

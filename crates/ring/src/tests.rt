@@ -1,15 +1,13 @@
 //! A ring of three stops, and the limits of rings.
 use crate::Ring;
-use network::fault::*;
-use network::leg::*;
+use network::fault::NetworkFault;
+use network::leg::{Leg, Window};
 use network::network::Network;
 use std::test::Fail;
 
 #[test]
 fn three_stops(rt: HostRuntime) -> Result<(), Fail> {
-    let Some(ring) = Ring::new(3, 7, -2) else {
-        return Err(Fail::new("no ring"));
-    };
+    let ring = Ring::new(3, 7, -2).ok_or_else(|| Fail::new("no ring"))?;
     assert_eq!(rt;
         (ring.node_count(), ring.depot(), ring.sink(), ring.reach()),
         (3, 0, 0, 2)

@@ -57,12 +57,7 @@ pub fn source_over<'a>(
 }
 
 /// What comes of opening tables.
-pub fn opened<'a>(
-    nodes: &'a [NodeRecord],
-    legs: &'a [Leg],
-    depot: u16,
-    sink: u16,
-) -> Result<(), FileFault> {
+pub fn opened(nodes: &[NodeRecord], legs: &[Leg], depot: u16, sink: u16) -> Result<(), FileFault> {
     source_over(nodes, legs, depot, sink)?;
     Ok(())
 }

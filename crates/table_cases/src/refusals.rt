@@ -1,6 +1,6 @@
 //! Tables that are refused, and those at the limits.
 use crate::{four_nodes, leg, node, opened, refused, six_legs};
-use network::fault::*;
+use network::fault::FilePart;
 
 #[test]
 fn depot_and_sink(rt: HostRuntime) {

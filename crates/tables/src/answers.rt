@@ -5,7 +5,7 @@ ghost use Rattle.tables.specs.Lawful.{table_lawful};
 ghost use Rattle.tables.specs.Source.{source_net, start_in, IsSpan, IsRow};
 
 use crate::source::TableSource;
-use network::fault::NetworkFault;
+use network::fault::{NetworkFault, known};
 use network::leg::{Leg, Window};
 use network::network::Network;
 use std::ops::Range;
@@ -32,9 +32,7 @@ impl TableSource<'_> {
     fn row(&self, i: u16) -> Result<&[Leg], NetworkFault>
         ensures { MatchResult result (λ row. IsRow self.now i row.now) (λ f. (f ≡ NoNode i) × (length self.now.nodes.now ≤ i)) }
     {
-        if i as usize >= self.nodes.len() {
-            return Err(NetworkFault::NoNode { node: i });
-        }
+        known(i, self.node_count())?;
         Ok(&self.legs[self.span(i as usize)])
     }
 }

@@ -1,29 +1,18 @@
 //! The first fault of tables: their sizes, the depot and the sink come first, then each node, then each leg.
-ghost use Rattle.std.specs.Prelude.{◌≡◌, ◌^◌, ◌<◌, ◌≤◌, length};
+ghost use Rattle.std.specs.Prelude.{◌≡◌, ◌<◌, ◌≤◌, length};
 ghost use Rattle.std.specs.Result.{result_err};
-ghost use Rattle.network.specs.First.{unless, first_of};
+ghost use Rattle.network.specs.First.{first_of};
 ghost use Rattle.network.specs.Limits.{most_nodes, most_legs};
-ghost use Rattle.network.specs.Rows.{least_first, most_first};
+ghost use Rattle.network.specs.Rows.{least_first};
 ghost use Rattle.tables.specs.Tables.{first_leg_of};
-ghost use Rattle.tables.specs.Judge.{fault_at, valid_header, valid_node, valid_leg, header_fault, node_fault, leg_fault, table_fault};
+ghost use Rattle.tables.specs.Judge.{valid_header, valid_node, valid_leg, header_fault, node_fault, leg_fault, table_fault};
 
 use crate::record::NodeRecord;
-use network::each::check_each;
+use network::each::{check_each, unless};
 use network::fault::{FileFault, FilePart};
 use network::leg::Leg;
 use network::limits::{MAX_LEGS, MAX_NODES, MAX_REACH, MAX_TIME};
-
-/// Refuses the record at a place unless it is valid.
-fn verdict(valid: bool, part: FilePart, at: usize) -> Result<(), FileFault>
-    requires { at < 2 ^ 16 }
-    ensures { result_err result ≡ unless valid (fault_at part at) }
-{
-    if valid {
-        Ok(())
-    } else {
-        Err(part.at(0, at as u16))
-    }
-}
+use network::rows::most_first;
 
 fn is_valid_header(nodes: usize, legs: usize, depot: u16, sink: u16) -> bool
     ensures { result ≡ valid_header nodes legs depot sink }
@@ -62,20 +51,12 @@ fn least_first(nodes: &[NodeRecord], i: usize) -> u32
     if i == 0 { 0 } else { nodes[i - 1].first_leg }
 }
 
-/// The most that the first leg of node `i` may be.
-fn most_first(legs: u32, i: usize) -> u32
-    ensures { result ≡ most_first legs i }
-{
-    if i == 0 { 0 } else { legs }
-}
-
 fn judge_header(nodes: usize, legs: usize, depot: u16, sink: u16) -> Result<(), FileFault>
     ensures { result_err result ≡ header_fault nodes legs depot sink }
 {
-    verdict(
+    unless(
         is_valid_header(nodes, legs, depot, sink),
-        FilePart::Header,
-        0,
+        FilePart::Header.at(0, 0),
     )
 }
 
@@ -85,7 +66,7 @@ fn judge_node(nodes: &[NodeRecord], legs: u32, i: usize) -> Result<(), FileFault
     ensures { result_err result ≡ node_fault nodes.now legs i }
 {
     let valid = is_valid_node(nodes[i], least_first(nodes, i), most_first(legs, i));
-    verdict(valid, FilePart::NodeTable, i)
+    unless(valid, FilePart::NodeTable.at(0, i as u16))
 }
 
 fn judge_leg(legs: &[Leg], nodes: usize, j: usize) -> Result<(), FileFault>
@@ -93,7 +74,10 @@ fn judge_leg(legs: &[Leg], nodes: usize, j: usize) -> Result<(), FileFault>
     requires legs_len_bound { length legs.now ≤ most_legs }
     ensures { result_err result ≡ leg_fault legs.now nodes j }
 {
-    verdict(is_valid_leg(legs[j], nodes), FilePart::LegTable, j)
+    unless(
+        is_valid_leg(legs[j], nodes),
+        FilePart::LegTable.at(0, j as u16),
+    )
 }
 
 /// Refuses tables with their first fault.

@@ -20,12 +20,12 @@ mod tests {
         [node(0, 9, 0), node(1, 8, 1), node(2, 7, 2)]
     }
 
-    // Legs 0 to 1, 1 to 2 and 2 to 0 at these costs.
+    /// Legs 0 to 1, 1 to 2 and 2 to 0 at these costs.
     fn legs(a: i32, b: i32, c: i32) -> [Leg; 3] {
         [leg(1, 3, a), leg(2, 4, b), leg(0, 5, c)]
     }
 
-    // What writing that network at these costs answers, into a buffer of sevens, and whether the buffer still is one.
+    /// What writing that network at these costs answers, into a buffer of sevens, and whether the buffer still is one.
     fn attempt(
         a: i32,
         b: i32,
@@ -102,7 +102,7 @@ mod tests {
         Ok(())
     }
 
-    // The sample network's image.
+    /// The sample network's image.
     fn image() -> Result<[u8; 1536], Fail> {
         let (nodes, legs) = (nodes(), legs(1, 2, 3));
         let source = source_over(&nodes, &legs, 0, 2)?;

@@ -42,4 +42,4 @@ pub returns : goal.returns
 returns g c =
     let N = g.N.Network.meaning c.args.net.now in
     let t = top_put N c.args.header c.store_in.new.block c.args.out.now c.requires.header c.store_in.ensures (omega arith) in
-    tables_put N c.args.out.now _ c.put.new.out c.put-2.new.out t.over (rw (c.of.ensures.net, c.requires.header) at c.put.ensures) (rw (c.blocks_for.ensures, c.of-2.ensures.net, c.requires.header) at c.put-2.ensures) (omega arith)
+    tables_put N c.args.out.now _ c.put.new.out c.put-2.new.out t.over (rw (c.of.ensures.net, c.requires.header) at c.put.ensures) (rw (c.leg_base.ensures, c.of-2.ensures.net, c.requires.header) at c.put-2.ensures) (omega arith)

@@ -16,7 +16,7 @@ returns-in-Ok-clause-steps g c =
     let s = c.loop-self.self in
     let N = g.N.Network.meaning s.net.now in
     let w = leg_given N s.node s.leg _ (omega arith) c.in-Ok.ensures in
-    c.loop-self.invariant.left ∙ w.1 ∙ ap (λ (z : List ℕ). z ∷ leg_records_from N s.node (s.leg + 1)) (sym c.leg_record.ensures)
+    c.loop-self.invariant.left ∙ w.1 ∙ ap (λ (z : List ℕ). z ∷ leg_records_from N s.node (s.leg + 1)) (sym c.leg_bytes.ensures)
 
 pub returns-in-Ok-clause-goes : goal.returns-in-Ok-clause-goes
 returns-in-Ok-clause-goes g c =

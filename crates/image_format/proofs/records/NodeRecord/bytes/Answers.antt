@@ -1,5 +1,5 @@
 use Rattle.blocks.specs.Over.{over}
-use Rattle.image_writer.proofs.records.node_record.Goals as goal
+use Rattle.image_format.proofs.records.NodeRecord.bytes.Goals as goal
 
 pub returns : goal.returns
 unfolding over

@@ -1,7 +1,7 @@
 use Rattle.std.proofs.Common.{w32, SFits, rules}
 use Rattle.std.proofs.lemmas.Int.{to_z-of_z}
 use Rattle.blocks.specs.Over.{over}
-use Rattle.image_writer.proofs.records.leg_record.Goals as goal
+use Rattle.image_format.proofs.records.leg_bytes.Goals as goal
 
 pub returns : goal.returns
 unfolding over
