@@ -1,6 +1,6 @@
 //! Parts of one's own: a kind of label that counts legs, and an agenda that takes the last entry.
 //!
-//! They are written as a reader of docs/labels.md and docs/agendas.md would write them.
+//! They are the examples of docs/labels.md and docs/agendas.md.
 #![tactic(auto)]
 
 pub mod hops;
