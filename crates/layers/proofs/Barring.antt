@@ -1,9 +1,11 @@
 -- What a row answers without its barred legs.
-use Rattle.std.proofs.Common.{◌≡◌, ℕ, Bool, true, false, cond, not, eqb, ltb, List, [], ◌∷◌, drop, Some, None, Ok, Err, filter, Option, Result, sym, refl, ap, ◌∙◌, arith}
+use Rattle.std.proofs.Common.{◌≡◌, ℕ, zero, suc, ◌+◌, ◌<◌, Bool, true, false, cond, not, eqb, ltb, List, [], ◌∷◌, ◌++◌, length, take, drop, get_or, Some, None, Ok, Err, filter, Option, Result, sym, refl, ap, ◌∙◌, arith}
 use Rattle.std.specs.List.{slice_get}
 use Rattle.std.specs.Option.{ok_or}
 use Rattle.std.proofs.lemmas.Bool.Decides.{nat_tests}
-use Rattle.std.proofs.lemmas.Bool.{cond-true, or_parts, or_from, and_left}
+use Rattle.std.proofs.lemmas.Bool.{cond-true, cond-false, or_parts, or_from, and_left}
+use Rattle.std.proofs.lemmas.List.{take_all, length-append, append-nil}
+use Rattle.std.proofs.lemmas.List.Elements.{filter-append}
 use Rattle.std.proofs.lemmas.Option.{gets}
 use Rattle.network.specs.Answers.{if_node, length_answer, leg_answer, row_length, row_leg}
 use Rattle.network.specs.Meaning.{Net, Row, legs_row, unreadable_row, legs_of, legs_left}
@@ -38,6 +40,15 @@ length_below m ps i a h e = e ∙ ap (λ (row : Row). if_node m i (row_length i 
 pub leg_below : (m : Net) (ps : Pairs) (i k : ℕ) (a : Result Leg NetworkRefusal) → false ≡ bars_from ps i → a ≡ leg_answer m i k → a ≡ leg_answer (barred ps m) i k
 leg_below m ps i k a h e = e ∙ ap (λ (row : Row). if_node m i (row_leg i k row)) (unbarred m ps i h)
 
+-- as many legs as a row has are all of them
+all_taken : (i len : ℕ) (b : Bool) (row : Row) → Ok len ≡ cond b (row_length i row) (Err (no_node i)) → take len (cond b (drop 0 (legs_of row)) []) ≡ cond b (drop 0 (legs_of row)) []
+all_taken i len true (legs_row ls) e = grind (arith, take_all)
+all_taken i len true (unreadable_row x) e = grind (arith, take_all)
+all_taken i len false row e = grind (arith, take_all)
+
+pub row_taken : (m : Net) (i len : ℕ) → Ok len ≡ length_answer m i → take len (legs_left m i 0) ≡ legs_left m i 0
+row_taken m i len e = all_taken i len (ltb i m.n) (m.row i) e
+
 -- the leg at a place of a row that can be read, or that there is none
 leg_got : (i k : ℕ) (ls : List Leg) → ok_or (slice_get ls k) (no_such_leg i) ≡ row_leg i k (legs_row ls)
 leg_got i k ls = grind (arith, nat_tests, gets)
@@ -55,3 +66,32 @@ told_leg i (Some l) = refl
 pub leg_picked : (m : Net) (ps : Pairs) (i k len : ℕ) (o : Option Leg) (r : Result Leg NetworkFault) → Ok len ≡ length_answer m i → r ≡ ok_or o (NoLeg i) → o ≡ slice_get (filter (stays ps i) (legs_left m i 0)) k → told r ≡ leg_answer (barred ps m) i k
 leg_picked m ps i k len o r e t h =
     ap told t ∙ told_leg i o ∙ ap (λ (o : Option Leg). ok_or o (no_such_leg i)) h ∙ node_got (filter (stays ps i)) i k len (ltb i m.n) (m.row i) e
+
+-- how many legs stay of a node whose row was measured
+node_counted : (f : List Leg → List Leg) (i len n : ℕ) (b : Bool) (row : Row) → Ok len ≡ cond b (row_length i row) (Err (no_node i)) → n ≡ length (f (cond b (drop 0 (legs_of row)) [])) → Ok n ≡ cond b (row_length i (on_legs f row)) (Err (no_node i))
+node_counted f i len n true (legs_row ls) e h = ap Ok h
+node_counted f i len n true (unreadable_row x) e h = cc
+node_counted f i len n false row e h = cc
+
+pub length_counted : (m : Net) (ps : Pairs) (i len n : ℕ) → Ok len ≡ length_answer m i → n ≡ length (filter (stays ps i) (legs_left m i 0)) → Ok n ≡ length_answer (barred ps m) i
+length_counted m ps i len n e h = node_counted (filter (stays ps i)) i len n (ltb i m.n) (m.row i) e h
+
+-- one leg more that stays, and one that doesn't
+pub one_stays : (test : Leg → Bool) (xs : List Leg) (x : Leg) → test x ≡ true → length (filter test (xs ++ x ∷ [])) ≡ length (filter test xs) + 1
+one_stays test xs x h = ap length (filter-append test xs (x ∷ []) ∙ ap (λ (ys : List Leg). filter test xs ++ ys) (cond-true (test x) (x ∷ []) [] h)) ∙ length-append (filter test xs) (x ∷ [])
+
+pub one_goes : (test : Leg → Bool) (xs : List Leg) (x : Leg) → test x ≡ false → length (filter test (xs ++ x ∷ [])) ≡ length (filter test xs)
+one_goes test xs x h = ap length (filter-append test xs (x ∷ []) ∙ ap (λ (ys : List Leg). filter test xs ++ ys) (cond-false (test x) (x ∷ []) [] h) ∙ append-nil (filter test xs))
+
+-- a leg that stays stands behind those that stay before it
+pub picked : (test : Leg → Bool) (all : List Leg) (n : ℕ) (x : Leg) → n < length all → x ≡ get_or all n x → test x ≡ true → Some x ≡ slice_get (filter test all) (length (filter test (take n all)))
+picked test [] n x h e t = absurd (omega arith)
+picked test (a ∷ rest) zero x h e t = ap Some e ∙ ap (λ (ls : List Leg). slice_get ls 0) (sym (cond-true (test a) (a ∷ filter test rest) (filter test rest) (ap test (sym e) ∙ t)))
+picked test (a ∷ rest) (suc n) x h e t = by_head (test a) (picked test rest n x (omega arith) e t)
+  where
+    by_head : (b : Bool) → Some x ≡ slice_get (filter test rest) (length (filter test (take n rest))) → Some x ≡ slice_get (cond b (a ∷ filter test rest) (filter test rest)) (length (cond b (a ∷ filter test (take n rest)) (filter test (take n rest))))
+    by_head true r = r
+    by_head false r = r
+
+pub none_left : (fs : List Leg) (k left : ℕ) → length fs + left ≡ k → None ≡ slice_get fs k
+none_left fs k left e = grind (arith, nat_tests, gets)

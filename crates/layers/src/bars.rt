@@ -1,5 +1,7 @@
 //! Bars between nodes.
 ghost use Rattle.std.specs.Prelude.{◌≡◌, []};
+ghost use Rattle.network.specs.Answers.{length_answer, leg_answer};
+ghost use Rattle.network.specs.Refusals.{told as told_answer};
 ghost use Rattle.layers.specs.Bars.{is_barred, bars_from, stays, barred, bar_pair};
 ghost use Rattle.layers.specs.BarsLawful.{barred_lawful};
 ghost use Rattle.layers.specs.Refusals.{told};
@@ -38,11 +40,11 @@ impl<N: Network> Bars<N> {
         }
     }
 
-    // Whether the legs from node `i` to node `j` are barred.
+    // Whether the legs from node `i` to node `j` are barred. Ends at the pair: `contains` ends at a group of pairs.
     fn is_barred(&self, i: u16, j: u16) -> bool
         ensures { result ≡ is_barred self.now.pairs.items i j }
     {
-        self.pairs.contains(&(i, j))
+        self.pairs.iter().any(|pair| *pair == (i, j))
     }
 
     // Whether one of the pairs leaves node `i`.
@@ -57,6 +59,38 @@ impl<N: Network> Bars<N> {
         ensures { result ≡ stays self.now.pairs.items i leg.now }
     {
         !self.is_barred(i, leg.head)
+    }
+
+    // How many legs of node `i` stay. Apart from `row_len`, as the next from `leg`: these are short where no pair leaves.
+    #[inline(never)]
+    fn len_left(&self, i: u16) -> Result<u16, NetworkFault>
+        ensures { told_answer result ≡ length_answer (barred self.now.pairs.items (N.meaning self.now.below)) i }
+    {
+        let len = self.below.row_len(i)?;
+        let left = legs_from(&self.below, i, 0)
+            .take(len as usize)
+            .filter(|leg| self.stays(i, leg))
+            .count();
+        Ok(left as u16)
+    }
+
+    // Leg `k` of those of node `i` that stay.
+    #[inline(never)]
+    fn leg_left(&self, i: u16, k: u16) -> Result<Leg, NetworkFault>
+        ensures { told_answer result ≡ leg_answer (barred self.now.pairs.items (N.meaning self.now.below)) i k }
+    {
+        let len = self.below.row_len(i)?;
+        let mut left = k;
+        // A loop: `nth` of a filter is called for each leg, and takes twice as long.
+        for leg in legs_from(&self.below, i, 0).take(len as usize) {
+            if self.stays(i, &leg) {
+                if left == 0 {
+                    return Ok(leg);
+                }
+                left -= 1;
+            }
+        }
+        Err(NetworkFault::NoLeg { node: i })
     }
 }
 
@@ -110,27 +144,21 @@ impl<N: Network> Network for Sealed<Bars<N>> {
     #[tactic(auto, using(crate::proofs::Barring::length_below))]
     fn row_len(&self, i: u16) -> Result<u16, NetworkFault> {
         let bars = &self.layer;
-        let len = bars.below.row_len(i)?;
-        if !bars.bars_from(i) {
-            return Ok(len);
+        if bars.bars_from(i) {
+            bars.len_left(i)
+        } else {
+            bars.below.row_len(i)
         }
-        let left = legs_from(&bars.below, i, 0)
-            .filter(|leg| bars.stays(i, leg))
-            .count();
-        Ok(left as u16)
     }
 
     // Costs as `row_len`, but the row below is read only up to the leg that is asked for.
     #[tactic(auto, using(crate::proofs::Barring::leg_below))]
     fn leg(&self, i: u16, k: u16) -> Result<Leg, NetworkFault> {
         let bars = &self.layer;
-        if !bars.bars_from(i) {
-            return bars.below.leg(i, k);
+        if bars.bars_from(i) {
+            bars.leg_left(i, k)
+        } else {
+            bars.below.leg(i, k)
         }
-        bars.below.row_len(i)?;
-        legs_from(&bars.below, i, 0)
-            .filter(|leg| bars.stays(i, leg))
-            .nth(k as usize)
-            .ok_or(NetworkFault::NoLeg { node: i })
     }
 }

@@ -73,13 +73,17 @@ fn list_leg(rt: &HostRuntime, i: u16, leg: Leg) -> io::Result<()> {
 
 /// The legs of node `i`, or why its row cannot be read.
 fn list_row<N: Network>(rt: &HostRuntime, net: &N, i: u16) -> io::Result<()> {
-    if let Err(NetworkFault::UnreadableRow { below, .. }) = net.row_len(i) {
-        return println!(rt; "unreadable {i} {below}");
+    match net.row_len(i) {
+        Ok(len) => {
+            // the length spares asking for a leg beyond the row, which a layer may answer dearly
+            for leg in legs_from(net, i, 0).take(len as usize) {
+                list_leg(rt, i, leg)?;
+            }
+            Ok(())
+        }
+        Err(NetworkFault::UnreadableRow { below, .. }) => println!(rt; "unreadable {i} {below}"),
+        Err(_) => Ok(()),
     }
-    for leg in legs_from(net, i, 0) {
-        list_leg(rt, i, leg)?;
-    }
-    Ok(())
 }
 
 /// A network: its depot and sink, then each node with its window and its legs.
