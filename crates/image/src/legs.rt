@@ -1,5 +1,5 @@
 //! Whether leg blocks are sound.
-ghost use Rattle.std.specs.Prelude.{◌≡◌, ◌<◌, ◌&&◌, not, is_some, nat_lt};
+ghost use Rattle.std.specs.Prelude.{◌≡◌, ◌<◌};
 ghost use Rattle.std.specs.Result.{result_err};
 ghost use Rattle.blocks.specs.Tables.{blocks_for};
 ghost use Rattle.image_format.specs.Judge.{leg_fault_in, leg_block_fault_at};
@@ -15,7 +15,6 @@ use image_format::{BlockKind, MAX_COST, leg_base};
 use network::each::unless;
 use network::fault::{FileFault, FilePart};
 use network::limits::MAX_TIME;
-use std::array;
 
 /// The most leg blocks that an image has.
 pub(crate) const MAX_LEG_BLOCKS: usize = 477;
@@ -57,17 +56,19 @@ impl Layout<'_> {
         })
     }
 
-    /// Whether there is a leg block `k`, counted from 0, and it is sound.
-    fn is_sound(&self, k: usize) -> bool
-        ensures { result ≡ (nat_lt k (blocks_for 42 self.now.legs) && not (is_some (leg_block_fault_at self.now.image.now k))) }
-    {
-        k < blocks_for(self.legs as usize) && self.judge_leg_block(k).is_ok()
-    }
-
     /// Marks the leg blocks that are sound.
+    // A loop that ends with the leg blocks: an array made by a closure would ask it at every place that there could be.
     pub(crate) fn sound_leg_blocks(&self) -> [bool; MAX_LEG_BLOCKS]
         ensures { Marked result self.now.image.now }
     {
-        array::from_fn(|k| self.is_sound(k))
+        let mut marks = [false; MAX_LEG_BLOCKS];
+        let blocks = blocks_for(self.legs as usize);
+        for (k, mark) in marks.iter_mut().enumerate() {
+            if k >= blocks {
+                break;
+            }
+            *mark = self.judge_leg_block(k).is_ok();
+        }
+        marks
     }
 }
