@@ -21,7 +21,10 @@ pub fn block_of(image: &[u8], b: usize) -> &Block
     requires { 512 * b + 512 ≤ length image.now }
     ensures { result.now ≡ block_of image.now b }
 {
-    image[BLOCK_LEN * b..].first_chunk().unwrap()
+    // the end too, so that the length is known and not tested again
+    image[BLOCK_LEN * b..BLOCK_LEN * b + BLOCK_LEN]
+        .first_chunk()
+        .unwrap()
 }
 
 /// Judges check, kind, zero byte and number of a block.

@@ -19,7 +19,7 @@ fn bytes_at<const N: usize>(s: &[u8], at: usize) -> [u8; N]
     requires { at + N ≤ length s.now }
     ensures { result ≡ take N (drop at s.now) }
 {
-    *s[at..].first_chunk().unwrap()
+    *s[at..at + N].first_chunk().unwrap()
 }
 
 pub fn le16(s: &[u8], at: usize) -> u16
